@@ -1,0 +1,49 @@
+// std's readers as sources.
+ghost use Rattle.std.specs.Prelude.{◌≡◌, ◌≤◌, MatchResult, OnErr};
+ghost use Rattle.std.specs.Io.{ReadsAtMost};
+ghost use Rattle.std.specs.Io.KnownBytes.{ReadConsumes};
+ghost use Rattle.lb_ports.specs.Faults.{Rose, next_count};
+
+use crate::ports::{Failed, Source};
+use std::io::Read;
+
+/// A reader of std, with a count of its errors.
+#[derive(Drop)]
+pub struct StdSource<R> {
+    inner: R,
+    faults: u64,
+}
+
+impl<R: Read> StdSource<R> {
+    /// A source that reads from `inner`, with no fault so far.
+    pub fn new(inner: R) -> StdSource<R>
+        ensures inner { result.inner ≡ inner }
+        ensures unfailed { result.faults ≡ 0 }
+    {
+        StdSource { inner, faults: 0 }
+    }
+}
+
+impl<R: Read> Source for StdSource<R> {
+    ghost left = { λ s. R.remaining s.inner };
+
+    ghost faults = { λ s. s.faults };
+
+    fn read(&mut self, buf: &mut [u8]) -> Result<usize, Failed>
+        ensures bound { ReadsAtMost result buf.new }
+        ensures bytes { ReadConsumes (R.remaining self.old.inner) (R.remaining self.new.inner)
+            result buf.new }
+        ensures later { self.old.faults ≤ self.new.faults }
+        ensures cause { OnErr result (Rose self.old.faults self.new.faults) }
+        ensures counted { MatchResult result (λ _. self.new.faults ≡ self.old.faults)
+            (λ _. self.new.faults ≡ next_count self.old.faults) }
+    {
+        match self.inner.read(buf) {
+            Ok(count) => Ok(count),
+            Err(_) => {
+                self.faults = self.faults.saturating_add(1);
+                Err(Failed)
+            }
+        }
+    }
+}
