@@ -1,0 +1,4 @@
+pub mod PrefixLemmas
+pub mod PrefixTest
+pub mod ReplyLemmas
+pub mod TextLemmas

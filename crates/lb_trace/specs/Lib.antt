@@ -1,0 +1,5 @@
+pub mod Devices
+pub mod Hex
+pub mod Prefix
+pub mod Trace
+pub mod TraceText
