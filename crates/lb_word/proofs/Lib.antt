@@ -1,0 +1,4 @@
+pub mod BoundLemmas
+pub mod ByteLemmas
+pub mod ResultLemmas
+pub mod SignedLemmas
