@@ -1,0 +1,46 @@
+-- Which layouts are valid for a program.
+use Rattle.std.specs.Prelude.{◌≡◌, ℕ, ◌+◌, ◌%◌, ◌<◌, ◌≤◌, ◌⊎◌, List, [], ◌∷◌, length, slice_index, All}
+use Rattle.lb_syntax.specs.Tree.{Procedure}
+use Rattle.lb_syntax.specs.Needs.{sites, frame_need}
+use Rattle.lb_syntax.specs.declared.layout.FrameLayout.{FrameLayout}
+use Rattle.lb_syntax.specs.declared.layout.Layout.{Layout}
+
+-- the address at which the stack begins; it grows downwards
+abbrev pub stack_top : ℕ
+stack_top = 0x40000
+
+-- bytes of a frame from an offset on
+pub record Span : Type 0 where
+  pub offset : ℕ
+  pub size : ℕ
+
+-- where the block of a site stands, given the offsets and the sizes of all sites
+abbrev pub span_at : List ℕ → List ℕ → ℕ → Span
+span_at offsets sizes k = record { offset = slice_index offsets k; size = slice_index sizes k }
+
+-- the span ends at or before this place
+abbrev pub EndsBy : Span → ℕ → Type 0
+EndsBy s place = s.offset + s.size ≤ place
+
+-- no byte is in both: one of them has none, or one ends before the other begins
+abbrev pub AreApart : Span → Span → Type 0
+AreApart s t = (s.size ≡ 0) ⊎ (t.size ≡ 0) ⊎ EndsBy s t.offset ⊎ EndsBy t s.offset
+
+-- a frame that fits a function: whole words, no more than it asks for, and its blocks inside and apart
+pub record IsFrameOf (frame : FrameLayout) (f : Procedure) : Type 0 where
+  pub offset_each : length frame.sites ≡ length (sites f.body)
+  pub whole : frame.size % 4 ≡ 0
+  pub small : frame.size ≤ frame_need f
+  pub aligned : All (λ offset. offset % 4 ≡ 0) frame.sites
+  pub inside : (k : ℕ) → k < length (sites f.body) → EndsBy (span_at frame.sites (sites f.body) k) frame.size
+  pub apart : (j k : ℕ) → j < k → k < length (sites f.body) → AreApart (span_at frame.sites (sites f.body) j) (span_at frame.sites (sites f.body) k)
+
+-- a frame for each function, in order
+abbrev pub AreFramesOf : List FrameLayout → List Procedure → Type 0
+AreFramesOf [] [] = Unit {0}
+AreFramesOf (frame ∷ frames) (f ∷ fs) = IsFrameOf frame f × AreFramesOf frames fs
+AreFramesOf _ _ = ⊥
+
+-- a layout that is valid for a program
+abbrev pub IsValidLayout : Layout → List Procedure → Type 0
+IsValidLayout layout p = AreFramesOf layout.frames p

@@ -1,0 +1,9 @@
+pub mod Names
+pub mod Tree
+pub mod Needs
+pub mod Calls
+pub mod Rules
+pub mod Laws
+pub mod Layouts
+pub mod Printing
+pub mod Small

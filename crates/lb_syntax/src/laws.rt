@@ -1,0 +1,7 @@
+// Laws of the definitions on trees.
+ghost use Rattle.lb_syntax.specs.Laws.{DistinctIsSetSize};
+
+/// A function has as many variables as its set of names has members.
+pub fn distinct_is_set_size()
+    ensures { DistinctIsSetSize }
+{}
