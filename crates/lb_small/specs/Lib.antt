@@ -1,0 +1,5 @@
+pub mod Memory
+pub mod Instructions
+pub mod Ranges
+pub mod Runs
+pub mod Steps
