@@ -1,0 +1,13 @@
+pub mod Onward
+pub mod Bounds
+pub mod Later
+pub mod MapLemmas
+pub mod MemoryLemmas
+pub mod ValueLemmas
+pub mod RunFacts
+pub mod FindFacts
+pub mod BlockFacts
+pub mod ArmFacts
+pub mod CommandFacts
+pub mod EverFacts
+pub mod FrameFacts

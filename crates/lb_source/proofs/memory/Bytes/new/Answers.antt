@@ -1,0 +1,7 @@
+use Rattle.std.proofs.Common.{ap, ◌∙◌}
+use Rattle.lb_source.specs.Machine.{memory_of}
+use Rattle.lb_source.proofs.MemoryLemmas.{absent_nothing}
+use Rattle.lb_source.proofs.memory.Bytes.new.Goals as goal
+
+pub returns : goal.returns
+returns c = ap memory_of c.in_ok-cells.ensures ∙ absent_nothing 0x40000

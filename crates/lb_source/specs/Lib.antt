@@ -1,0 +1,7 @@
+pub mod Maps
+pub mod Value
+pub mod Run
+pub mod Source
+pub mod Defined
+pub mod Laws
+pub mod Machine
