@@ -1,0 +1,4 @@
+pub mod FormLemmas
+pub mod NeedLemmas
+pub mod FrameLemmas
+pub mod SmallLemmas
