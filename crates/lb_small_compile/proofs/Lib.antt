@@ -1,0 +1,15 @@
+pub mod BlockLemmas
+pub mod BlockRuns
+pub mod BootRuns
+pub mod CodeLemmas
+pub mod CommandRuns
+pub mod FollowLemmas
+pub mod LimitLemmas
+pub mod PlaceLemmas
+pub mod ProgramRuns
+pub mod RangeLemmas
+pub mod SlotLemmas
+pub mod StateRelation
+pub mod TargetLemmas
+pub mod TermRuns
+pub mod SmallRules

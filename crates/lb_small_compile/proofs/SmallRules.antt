@@ -1,0 +1,101 @@
+-- A program of the part that keeps its limits keeps every rule.
+use Rattle.std.proofs.Common.{◌≡◌, ℕ, zero, suc, ◌≤◌, false, List, [], ◌∷◌, ◌++◌, length, map, refl, sym, ap, ◌∙◌, subst, arith, lit≤, All, Contains}
+use Rattle.std.specs.Prelude.{codes}
+use Rattle.std.proofs.lemmas.List.Elements.{All-contains, All-append}
+use Rattle.lb_syntax.specs.declared.tree.Action.TheVariants.{Read, Write}
+use Rattle.lb_syntax.specs.Names.{Text, is_among, AreDistinct}
+use Rattle.lb_syntax.specs.Tree.{Command, Sets, Interacts, Ends, Then, Procedure}
+use Rattle.lb_syntax.specs.Needs.{frame_need, IsWithinLimits}
+use Rattle.lb_syntax.specs.Calls.{CallSite, calls, accesses, callees, IsCallPath, IsRecursive, path_need}
+use Rattle.lb_syntax.specs.Rules.{IsBlockSize, IsGoodCall, IsGoodAccess, KeepsFunctionRules, KeepsRules}
+use Rattle.lb_syntax.specs.Small.{IsSmallCommand, IsSmallBlock, IsSmallProcedure, IsSmall}
+use Rattle.lb_small_compile.proofs.BlockLemmas.{small_sites}
+
+All-nil : {A : Type 0} (P : A → Type 0) → All P []
+All-nil P k d h = absurd (omega arith)
+
+All-one : {A : Type 0} (P : A → Type 0) (x : A) → P x → All P (x ∷ [])
+All-one P x p zero d h = p
+All-one P x p (suc k) d h = absurd (omega arith)
+
+All-two : {A : Type 0} (P : A → Type 0) (x y : A) → P x → P y → All P (x ∷ y ∷ [])
+All-two P x y p q zero d h = p
+All-two P x y p q (suc zero) d h = q
+All-two P x y p q (suc (suc k)) d h = absurd (omega arith)
+
+-- nothing is in an empty list
+in_nothing : {A : Type 0} (xs : List A) (x : A) → xs ≡ [] → Contains xs x → ⊥
+in_nothing [] x e h = absurd (omega (arith, h.1))
+in_nothing (y ∷ ys) x e h = cc
+
+-- the part has no calls
+command_calls : (c : Command) → IsSmallCommand c → calls c ≡ []
+command_calls (Sets x e) h = refl
+command_calls (Interacts (x ∷ []) Read (e ∷ [])) h = refl
+command_calls (Interacts [] Write (a ∷ e ∷ [])) h = refl
+command_calls _ h = absurd h
+
+block_calls : (b : Command) → IsSmallBlock b → calls b ≡ []
+block_calls Ends h = refl
+block_calls (Then c b) h = ap (λ xs. xs ++ calls b) (command_calls c h.0) ∙ block_calls b h.1
+block_calls _ h = absurd h
+
+-- its accesses have their shapes
+command_accesses : (c : Command) → IsSmallCommand c → All IsGoodAccess (accesses c)
+command_accesses (Sets x e) h = All-nil IsGoodAccess
+command_accesses (Interacts (x ∷ []) Read (e ∷ [])) h = All-one IsGoodAccess (record { targets = x ∷ []; action = Read; arguments = e ∷ [] }) (refl, refl)
+command_accesses (Interacts [] Write (a ∷ e ∷ [])) h = All-one IsGoodAccess (record { targets = []; action = Write; arguments = a ∷ e ∷ [] }) (refl, refl)
+command_accesses _ h = absurd h
+
+block_accesses : (b : Command) → IsSmallBlock b → All IsGoodAccess (accesses b)
+block_accesses Ends h = All-nil IsGoodAccess
+block_accesses (Then c b) h = All-append IsGoodAccess (accesses c) (accesses b) (command_accesses c h.0) (block_accesses b h.1)
+block_accesses _ h = absurd h
+
+no_callees : (name : Text) (f : Procedure) → IsSmallProcedure name f → callees f ≡ []
+no_callees name f h = ap (map (λ (site : CallSite). site.function)) (block_calls f.body h.small)
+
+-- where nothing is called, no path of calls leads back
+not_recursive : (p : List Procedure) (f : Procedure) → callees f ≡ [] → ¬ (IsRecursive p f)
+not_recursive p f none ([], path) = in_nothing (callees f) f.name none path.1
+not_recursive p f none (g ∷ gs, path) = in_nothing (callees f) g.name none path.1
+
+-- and each path of calls is a function at most
+short_path : (p : List Procedure) (most : ℕ) → All (λ f. callees f ≡ []) p → All (λ f. frame_need f ≤ most) p
+    → (path : List Procedure) → IsCallPath p path → path_need path ≤ most
+short_path p most none frames [] h = omega arith
+short_path p most none frames (f ∷ []) h = let small = All-contains (λ f. frame_need f ≤ most) p f frames h in omega (arith, small)
+short_path p most none frames (f ∷ g ∷ path) h = absurd (in_nothing (callees f) g.name (All-contains (λ f. callees f ≡ []) p f none h.0) h.1)
+
+keeps_function_rules : (p : List Procedure) (name : Text) (f : Procedure) → IsSmallProcedure name f → KeepsFunctionRules p f
+keeps_function_rules p name f h = record {
+  distinct_params = subst AreDistinct (sym h.no_params) tt;
+  distinct_results = subst AreDistinct (sym h.no_results) tt;
+  entry = λ _. (h.no_params, h.no_results);
+  few_params = subst (λ xs. length xs ≤ 8) (sym h.no_params) (lit≤ tt);
+  few_results = subst (λ xs. length xs ≤ 8) (sym h.no_results) (lit≤ tt);
+  block_sizes = subst (All IsBlockSize) (sym (small_sites f.body h.small)) (All-nil IsBlockSize);
+  good_calls = subst (All (IsGoodCall p)) (sym (block_calls f.body h.small)) (All-nil (IsGoodCall p));
+  good_accesses = block_accesses f.body h.small;
+  no_recursion = not_recursive p f (no_callees name f h);
+}
+
+names_differ : (x y : Text) → x ≡ codes "init" → y ≡ codes "loop" → is_among (y ∷ []) x ≡ false
+names_differ x y e f = ap (λ z. is_among (y ∷ []) z) e ∙ ap (λ z. is_among (z ∷ []) (codes "init")) f
+
+pub keeps_rules : (p : List Procedure) → IsSmall p → IsWithinLimits p → KeepsRules p
+keeps_rules [] h w = absurd h
+keeps_rules (f ∷ []) h w = absurd h
+keeps_rules (init ∷ again ∷ []) h w =
+    let p : List Procedure = init ∷ again ∷ [] in record {
+      few_functions = lit≤ tt;
+      distinct_functions = (names_differ init.name again.name h.0.named h.1.named, (refl, tt));
+      has_init = (0, (omega arith), h.0.named);
+      has_loop = (1, (omega arith), h.1.named);
+      functions = All-two (KeepsFunctionRules p) init again (keeps_function_rules p (codes "init") init h.0) (keeps_function_rules p (codes "loop") again h.1);
+      limits = w;
+      stack = λ path is_path.
+          let none = All-two (λ (f : Procedure). callees f ≡ []) init again (no_callees (codes "init") init h.0) (no_callees (codes "loop") again h.1) in
+          let need = short_path p 2032 none w.frames path is_path in omega (arith, need);
+    }
+keeps_rules (f ∷ g ∷ h ∷ fs) s w = absurd s

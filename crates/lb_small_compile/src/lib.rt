@@ -1,0 +1,13 @@
+//! The compiler of the small part of the language: each variable stands in a slot of a stack frame.
+#![tactic(auto)]
+
+mod compiler;
+mod emit;
+mod error;
+mod form;
+mod needs;
+mod read;
+mod slots;
+
+pub use compiler::{Compiled, compile};
+pub use error::CompileError;
