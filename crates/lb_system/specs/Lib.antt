@@ -1,0 +1,5 @@
+pub mod Request
+pub mod Report
+pub mod Faults
+pub mod Answers
+pub mod Headline
