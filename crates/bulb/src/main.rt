@@ -1,0 +1,29 @@
+//! The program: it makes the real source and sink, calls the library and ends with its status.
+#![tactic(auto)]
+
+use lb_ports::{StdSink, StdSource};
+use lb_system::plain;
+use std::env;
+use std::io::ErrorKind;
+use std::process::ExitCode;
+
+/// The status where no memory is left for the words.
+const NO_MEMORY: u8 = 9;
+
+/// The status where the runtime refuses the words for another cause, as one that isn't UTF-8. No call answers it.
+const NO_WORDS: u8 = 11;
+
+fn main(rt: HostRuntime) -> ExitCode {
+    let args = match env::args(&rt) {
+        Ok(args) => args,
+        Err(error) if error.kind() == ErrorKind::OutOfMemory => return ExitCode::from(NO_MEMORY),
+        Err(_) => return ExitCode::from(NO_WORDS),
+    };
+    let Ok(words) = args.collect::<Vec<String>>(rt.alloc()) else {
+        return ExitCode::from(NO_MEMORY);
+    };
+    let mut input = StdSource::new(rt.stdin());
+    let mut output = StdSink::new(rt.stdout());
+    let ended = plain(rt.alloc(), &words, &mut input, &mut output);
+    ExitCode::from(ended.status)
+}
