@@ -1,0 +1,131 @@
+// The top call beside the source's interpreter: the same events, one by one.
+use crate::call::{call_plain, whole};
+use lb_small_compile::compile;
+use lb_small_text::read_program;
+use lb_source::{Reason, SourceEnd, SourceRun, interpret};
+use lb_trace::print_trace;
+use std::alloc::{AllocError, Global};
+use std::test::Fail;
+
+// A program, its replies as words and as numbers, how many events its code does in 1,000 instructions, and how the
+// source ends with as much fuel.
+#[derive(Drop)]
+struct Row<'a> {
+    words: &'a [&'a str],
+    replies: &'a [u32],
+    input: &'a str,
+    events: usize,
+    end: SourceEnd,
+}
+
+// What the source does, if the text is a program that is built.
+fn source_run(
+    alloc: Global,
+    input: &[u8],
+    replies: &[u32],
+) -> Result<Option<SourceRun>, AllocError> {
+    let Some(program) = read_program(alloc, input)? else {
+        return Ok(None);
+    };
+    let Ok(built) = compile(alloc, &program) else {
+        return Ok(None);
+    };
+    Ok(Some(interpret(alloc, &program, &built.layout, 1000, replies)?))
+}
+
+// The event lines of a report, of 21 bytes each, of which there are this many.
+fn event_lines(report: &[u8], events: usize) -> &[u8] {
+    let size = events.saturating_mul(21);
+    if size <= report.len() {
+        &report[report.len() - size..]
+    } else {
+        report
+    }
+}
+
+#[test]
+fn does_what_the_source_does(rt: HostRuntime) -> Result<(), Fail> {
+    let none: [u32; 0] = [];
+    let rows = [
+        Row {
+            words: &["bulb", "run", "1000"],
+            replies: &none,
+            input: "fn init() {\n  a = 2047;\n  b = 2048;\n  c = 4095;\n  d = 4096;\n  e = 2147481600;\n  f = 4294967295;\n  MMIOWRITE(268509196, a);\n  MMIOWRITE(268509196, b);\n  MMIOWRITE(268509196, c);\n  MMIOWRITE(268509196, d);\n  MMIOWRITE(268509196, e);\n  MMIOWRITE(268509196, f);\n}\nfn loop() {\n}\n",
+            events: 6,
+            end: SourceEnd::Spent,
+        },
+        Row {
+            words: &["bulb", "run", "1000"],
+            replies: &none,
+            input: "fn init() {\n  MMIOWRITE(268509196, 2047);\n  MMIOWRITE(268509196, 2048);\n  MMIOWRITE(268509196, 4095);\n  MMIOWRITE(268509196, 4096);\n  MMIOWRITE(268509196, 2147481600);\n  MMIOWRITE(268509196, 4294967295);\n}\nfn loop() {\n}\n",
+            events: 6,
+            end: SourceEnd::Spent,
+        },
+        Row {
+            words: &["bulb", "run", "1000", "00000001", "80000000", "ffffffff"],
+            replies: &[1, 0x8000_0000, 0xFFFF_FFFF],
+            input: "fn init() {\n  a = 268509196;\n}\nfn loop() {\n  x = MMIOREAD(268582984);\n  y = x;\n  MMIOWRITE(268582988, y);\n}\n",
+            events: 6,
+            end: SourceEnd::Starved,
+        },
+        Row {
+            words: &["bulb", "run", "1000"],
+            replies: &none,
+            input: "fn init() {\n  MMIOWRITE(268509196, 7);\n  y = x;\n}\nfn loop() {\n}\n",
+            events: 1,
+            end: SourceEnd::Undefined(Reason::UnsetVariable),
+        },
+        Row {
+            words: &["bulb", "run", "1000", "00000005"],
+            replies: &[5],
+            input: "fn init() {\n  x = MMIOREAD(268582984);\n  MMIOWRITE(268509186, x);\n}\nfn loop() {\n}\n",
+            events: 1,
+            end: SourceEnd::Undefined(Reason::Unaligned),
+        },
+        Row {
+            words: &["bulb", "run", "1000", "00000005"],
+            replies: &[5],
+            input: "fn init() {\n  x = MMIOREAD(268582984);\n  MMIOWRITE(268513280, x);\n}\nfn loop() {\n}\n",
+            events: 1,
+            end: SourceEnd::Undefined(Reason::OutOfRange),
+        },
+    ];
+    for row in &rows {
+        let a = call_plain(rt.alloc(), &whole(row.words, row.input.as_bytes()))?;
+        assert_eq!(rt; a.ended.status, 0, "of {}", row.input);
+        let source = source_run(rt.alloc(), row.input.as_bytes(), row.replies)?;
+        let source = source.ok_or("not built")?;
+        assert_eq!(rt; source.end, row.end, "of {}", row.input);
+        assert_eq!(rt;
+            source.trace.as_slice().len(),
+            row.events,
+            "of {}",
+            row.input
+        );
+        let lines = print_trace(rt.alloc(), source.trace.as_slice())?;
+        assert!(rt;
+            event_lines(a.sink.held(), row.events) == lines.as_slice(),
+            "of {}",
+            row.input
+        );
+    }
+    Ok(())
+}
+
+#[test]
+fn writes_for_ever(rt: HostRuntime) -> Result<(), Fail> {
+    let input = "fn init() {\n}\nfn loop() {\n  MMIOWRITE(268509196, 1);\n}\n";
+    let a = call_plain(
+        rt.alloc(),
+        &whole(&["bulb", "run", "1000"], input.as_bytes()),
+    )?;
+    let source = source_run(rt.alloc(), input.as_bytes(), &[])?;
+    let source = source.ok_or("not built")?;
+    // Two starts of two instructions each; then five and a jump for each write: 166 writes in 996 instructions.
+    let lines = print_trace(rt.alloc(), source.trace.as_slice())?;
+    let written = event_lines(a.sink.held(), 166);
+    assert_eq!(rt; source.trace.as_slice().len(), 999);
+    assert!(rt; lines.starts_with(written));
+    assert!(rt; a.sink.held().starts_with(b"mmio 166\nend running\n"));
+    Ok(())
+}

@@ -1,0 +1,154 @@
+// The first rows: a program, its replies and its report; and each status with its line.
+use crate::call::{call_plain, whole};
+use lb_system::Fault;
+use std::test::Fail;
+
+const READS: &str =
+    "fn init() {\n  x = MMIOREAD(268582984);\n}\nfn loop() {\n  x = MMIOREAD(268582984);\n}\n";
+
+const EMPTY: &str = "fn init() {\n}\nfn loop() {\n}\n";
+
+const USAGE: &str = "usage: bulb run N REPLY...\n";
+
+// Words, an input, the status and what is written.
+#[derive(Drop)]
+struct Row<'a> {
+    words: &'a [&'a str],
+    input: &'a str,
+    status: u8,
+    fault: Option<Fault>,
+    written: &'a str,
+}
+
+fn done<'a>(words: &'a [&'a str], input: &'a str, written: &'a str) -> Row<'a> {
+    Row {
+        words,
+        input,
+        status: 0,
+        fault: None,
+        written,
+    }
+}
+
+fn usage<'a>(words: &'a [&'a str]) -> Row<'a> {
+    Row {
+        words,
+        input: EMPTY,
+        status: 1,
+        fault: Some(Fault::Usage),
+        written: USAGE,
+    }
+}
+
+fn not_built(input: &str) -> Row<'_> {
+    Row {
+        words: &["bulb", "run", "1000"],
+        input,
+        status: 10,
+        fault: Some(Fault::Unbuilt),
+        written: "not built\n",
+    }
+}
+
+#[test]
+fn reports_runs(rt: HostRuntime) -> Result<(), Fail> {
+    let rows = [
+        done(
+            &["bulb", "run", "1000", "00000000"],
+            READS,
+            "mmio 1\nend wants-reply\ntrace\nld 10024048 00000000\n",
+        ),
+        done(
+            &["bulb", "run", "1000"],
+            EMPTY,
+            "mmio 0\nend running\ntrace\n",
+        ),
+        done(
+            &["bulb", "run", "1", "abcdef01", "FFFFFFFF"],
+            EMPTY,
+            "mmio 0\nend running\ntrace\n",
+        ),
+        done(
+            &["bulb", "run", "4000000", "0000000a", "0000000B", "80000000"],
+            "fn init() {\n  MMIOWRITE(268509196, 4294967295);\n}\nfn loop() {\n  x = MMIOREAD(268582984);\n  MMIOWRITE(268509196, x);\n}\n",
+            "mmio 7\nend wants-reply\ntrace\nst 1001200c ffffffff\nld 10024048 0000000a\nst 1001200c 0000000a\nld 10024048 0000000b\nst 1001200c 0000000b\nld 10024048 80000000\nst 1001200c 80000000\n",
+        ),
+        done(
+            &["bulb", "run", "1000"],
+            "fn init() {\n  MMIOWRITE(1, 2);\n}\nfn loop() {\n}\n",
+            "mmio 0\nend halted store-to-code\ntrace\n",
+        ),
+        done(
+            &["bulb", "run", "1000"],
+            "fn init() {\n  x = MMIOREAD(4294967295);\n}\nfn loop() {\n}\n",
+            "mmio 0\nend halted bad-access\ntrace\n",
+        ),
+    ];
+    for row in &rows {
+        let a = call_plain(rt.alloc(), &whole(row.words, row.input.as_bytes()))?;
+        assert_eq!(rt; a.ended.status, row.status, "of {}", row.input);
+        assert_eq!(rt; a.ended.fault, row.fault, "of {}", row.input);
+        assert!(rt;
+            a.sink.held() == row.written.as_bytes(),
+            "written for {}",
+            row.input
+        );
+        assert!(rt; !a.ended.code.is_empty());
+        assert_eq!(rt; a.ended.layout.frames.len(), 2);
+    }
+    Ok(())
+}
+
+#[test]
+fn refuses_words_and_texts(rt: HostRuntime) -> Result<(), Fail> {
+    let rows = [
+        usage(&[]),
+        usage(&["bulb"]),
+        usage(&["bulb", "run"]),
+        usage(&["bulb", "check"]),
+        usage(&["bulb", "run", "0"]),
+        usage(&["bulb", "run", "01"]),
+        usage(&["bulb", "run", "+1"]),
+        usage(&["bulb", "run", "1a"]),
+        usage(&["bulb", "run", ""]),
+        usage(&["bulb", "run", "4000001"]),
+        usage(&["bulb", "run", "99999999999999999999"]),
+        usage(&["bulb", "run", "1", "0000000"]),
+        usage(&["bulb", "run", "1", "000000000"]),
+        usage(&["bulb", "run", "1", "+0000000"]),
+        usage(&["bulb", "run", "1", "0000000g"]),
+        usage(&["bulb", "run", "1", "00000000", ""]),
+        usage(&["bulb", "run", "run", "1"]),
+        not_built("fn init() {\n"),
+        not_built(""),
+        not_built("fn init() {\n}\nfn loop() {\n}\n\n"),
+        not_built("fn init() {\n}\nfn loop() {\n}"),
+        not_built("fn init() { }\nfn loop() {\n}\n"),
+        not_built("fn loop() {\n}\nfn init() {\n}\n"),
+        not_built("fn init() {\n  x = 01;\n}\nfn loop() {\n}\n"),
+        not_built("fn init() {\n  x = 0x1;\n}\nfn loop() {\n}\n"),
+        not_built("fn init() {\n  fn = 1;\n}\nfn loop() {\n}\n"),
+        not_built("fn init() {\n x = 1;\n}\nfn loop() {\n}\n"),
+        not_built("fn init() {\n  x = 1 ;\n}\nfn loop() {\n}\n"),
+        not_built("fn init() {\n  skip;\n}\nfn loop() {\n}\n"),
+        not_built("fn init() {\n  x = (1 + 2);\n}\nfn loop() {\n}\n"),
+        not_built("fn init() {\r\n}\r\nfn loop() {\r\n}\r\n"),
+    ];
+    for row in &rows {
+        let a = call_plain(rt.alloc(), &whole(row.words, row.input.as_bytes()))?;
+        assert_eq!(rt;
+            a.ended.status,
+            row.status,
+            "of {} {:?}",
+            row.input, row.words
+        );
+        assert_eq!(rt; a.ended.fault, row.fault, "of {}", row.input);
+        assert!(rt;
+            a.sink.held() == row.written.as_bytes(),
+            "written for {}",
+            row.input
+        );
+        assert!(rt; a.ended.code.is_empty());
+    }
+    Ok(())
+}

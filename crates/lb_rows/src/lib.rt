@@ -1,0 +1,16 @@
+//! Worked examples, run through the public calls of the other crates: what no clause says, and that each call
+//! answers otherwise than by want of memory. It has tests alone.
+#![tactic(auto)]
+
+#[cfg(test)]
+mod adapters;
+#[cfg(test)]
+mod call;
+#[cfg(test)]
+mod compared;
+#[cfg(test)]
+mod first_path;
+#[cfg(test)]
+mod limits;
+#[cfg(test)]
+mod pieces;

@@ -1,0 +1,85 @@
+// Programs at their limits, and one past each.
+use crate::call::{Call, call_plain, whole};
+use std::alloc::{AllocError, Global};
+use std::test::Fail;
+
+// A program whose `init` has these lines.
+fn program(alloc: Global, lines: &[u8]) -> Result<Vec<u8>, AllocError> {
+    let mut text = Vec::new(alloc);
+    text.extend_from_slice(b"fn init() {\n")?;
+    text.extend_from_slice(lines)?;
+    text.extend_from_slice(b"}\nfn loop() {\n}\n")?;
+    Ok(text)
+}
+
+// Assignments to this many variables, `times` times each.
+fn assignments(alloc: Global, variables: u32, times: u32) -> Result<Vec<u8>, AllocError> {
+    let mut lines = Vec::new(alloc);
+    for _ in 0..times {
+        for k in 0..variables {
+            let line = format!(in alloc; "  v{k} = {k};\n")?;
+            lines.extend_from_slice(line.as_bytes())?;
+        }
+    }
+    program(alloc, &lines)
+}
+
+fn status(alloc: Global, text: &[u8]) -> Result<u8, AllocError> {
+    Ok(
+        call_plain(alloc, &whole(&["bulb", "run", "100000"], text))?
+            .ended
+            .status,
+    )
+}
+
+#[test]
+fn takes_names_and_numbers_up_to_their_ends(rt: HostRuntime) -> Result<(), Fail> {
+    let rows = [
+        ("  abcdefghijklmnopqrstuvwxyz_01234 = 4294967295;\n", 0),
+        ("  abcdefghijklmnopqrstuvwxyz_012345 = 4294967295;\n", 10),
+        ("  _ = 4294967296;\n", 10),
+        ("  Z9 = 0;\n", 0),
+        ("  9Z = 0;\n", 10),
+    ];
+    for (lines, want) in rows {
+        let text = program(rt.alloc(), lines.as_bytes())?;
+        assert_eq!(rt; status(rt.alloc(), &text)?, want, "of {lines}");
+    }
+    Ok(())
+}
+
+// 473 variables and expressions of depth 1 are a frame of 4 * (473 + 1 + 34) = 2,032 bytes.
+#[test]
+fn builds_frames_up_to_2032_bytes(rt: HostRuntime) -> Result<(), Fail> {
+    let text = assignments(rt.alloc(), 473, 1)?;
+    let a = call_plain(rt.alloc(), &whole(&["bulb", "run", "100000"], &text))?;
+    assert_eq!(rt; a.ended.status, 0);
+    let frames = a.ended.layout.frames.as_slice();
+    assert_eq!(rt; frames.len(), 2);
+    assert_eq!(rt; frames[0].size, 4 * 473);
+    assert_eq!(rt; frames[1].size, 0);
+    let past = assignments(rt.alloc(), 474, 1)?;
+    assert_eq!(rt; status(rt.alloc(), &past)?, 10);
+    Ok(())
+}
+
+// 2,328 assignments of 14 words are a need of 16 + 80 + 80 + 2,328 * 14 = 32,768 words.
+#[test]
+fn builds_code_up_to_32768_words(rt: HostRuntime) -> Result<(), Fail> {
+    let text = assignments(rt.alloc(), 8, 291)?;
+    assert_eq!(rt; status(rt.alloc(), &text)?, 0);
+    let past = assignments(rt.alloc(), 17, 137)?;
+    assert_eq!(rt; status(rt.alloc(), &past)?, 10);
+    Ok(())
+}
+
+#[test]
+fn refuses_an_input_that_is_too_long(rt: HostRuntime) -> Result<(), Fail> {
+    let text = vec![in rt.alloc(); b' '; 1_048_577]?;
+    let call = Call {
+        piece: 1_000_000,
+        ..whole(&["bulb", "run", "1"], &text)
+    };
+    assert_eq!(rt; call_plain(rt.alloc(), &call)?.ended.status, 10);
+    Ok(())
+}

@@ -1,0 +1,76 @@
+// Reading and writing in pieces, and failing in the middle.
+use crate::call::{Call, call_plain, whole};
+use lb_system::Fault;
+use std::test::Fail;
+
+const READS: &[u8] =
+    b"fn init() {\n  x = MMIOREAD(268582984);\n}\nfn loop() {\n  x = MMIOREAD(268582984);\n}\n";
+
+const REPORT: &[u8] = b"mmio 1\nend wants-reply\ntrace\nld 10024048 00000000\n";
+
+const WORDS: [&str; 4] = ["bulb", "run", "1000", "00000000"];
+
+#[test]
+fn reads_and_writes_bytes_singly(rt: HostRuntime) -> Result<(), Fail> {
+    let call = Call {
+        piece: 1,
+        ..whole(&WORDS, READS)
+    };
+    let a = call_plain(rt.alloc(), &call)?;
+    assert_eq!(rt; a.ended.status, 0);
+    assert!(rt; a.sink.held() == REPORT);
+    Ok(())
+}
+
+#[test]
+fn tells_a_read_that_fails(rt: HostRuntime) -> Result<(), Fail> {
+    for (piece, fails) in [(65_536, 0u64), (65_536, 1), (1, 40)] {
+        let call = Call {
+            piece,
+            read_fails: &[fails],
+            ..whole(&WORDS, READS)
+        };
+        let a = call_plain(rt.alloc(), &call)?;
+        assert_eq!(rt; a.ended.status, 6, "at {fails}");
+        assert_eq!(rt; a.ended.fault, Some(Fault::Read));
+        assert!(rt; a.sink.held() == b"read fault\n".as_slice());
+    }
+    Ok(())
+}
+
+#[test]
+fn keeps_the_status_where_the_line_is_cut(rt: HostRuntime) -> Result<(), Fail> {
+    let call = Call {
+        room: 4,
+        ..whole(&["bulb", "run"], READS)
+    };
+    let a = call_plain(rt.alloc(), &call)?;
+    assert_eq!(rt; a.ended.status, 1);
+    assert!(rt; a.sink.held() == b"usag".as_slice());
+    Ok(())
+}
+
+#[test]
+fn tells_a_write_that_fails(rt: HostRuntime) -> Result<(), Fail> {
+    for (room, written) in [(0usize, 0usize), (1, 1), (20, 20), (49, 49)] {
+        let call = Call {
+            room,
+            ..whole(&WORDS, READS)
+        };
+        let a = call_plain(rt.alloc(), &call)?;
+        assert_eq!(rt; a.ended.status, 7, "room {room}");
+        assert_eq!(rt; a.ended.fault, Some(Fault::Write));
+        assert_eq!(rt; a.sink.held().len(), written);
+        assert!(rt; REPORT.starts_with(a.sink.held()));
+        assert!(rt; !a.ended.code.is_empty());
+    }
+    let call = Call {
+        piece: 10,
+        write_fails: &[2],
+        ..whole(&WORDS, READS)
+    };
+    let a = call_plain(rt.alloc(), &call)?;
+    assert_eq!(rt; a.ended.status, 7);
+    assert!(rt; a.sink.held() == b"mmio 1\nend wants-rep".as_slice());
+    Ok(())
+}
