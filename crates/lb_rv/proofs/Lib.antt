@@ -1,0 +1,5 @@
+pub mod FormatLemmas
+pub mod TableLemmas
+pub mod ImmediateLemmas
+pub mod FoundLemmas
+pub mod DecodingLemmas
