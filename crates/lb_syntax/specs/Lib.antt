@@ -1,9 +1,11 @@
 pub mod Names
 pub mod Tree
+pub mod WellFormed
 pub mod Needs
 pub mod Calls
 pub mod Rules
 pub mod Laws
 pub mod Layouts
 pub mod Printing
+pub mod Brackets
 pub mod Small
