@@ -1,2 +1,5 @@
 pub mod DistinctLemmas
 pub mod SetLemmas
+pub mod OpenLemmas
+pub mod OpenTermLemmas
+pub mod OpenCommandLemmas

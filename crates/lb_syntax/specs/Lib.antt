@@ -8,4 +8,6 @@ pub mod Laws
 pub mod Layouts
 pub mod Printing
 pub mod Brackets
+pub mod Parts
+pub mod Nesting
 pub mod Small

@@ -1,29 +1,36 @@
 -- The part of the language that is compiled so far: `init` and then `loop`, without parameters and results,
--- of assignments, reads of devices and writes to them, over numbers and variables.
-use Rattle.std.specs.Prelude.{◌≡◌, ◌^◌, ◌<◌, List, [], ◌∷◌, codes}
+-- of everything but calls, loads, stores and blocks of memory.
+use Rattle.std.specs.Prelude.{◌≡◌, List, [], ◌∷◌, codes}
 use Rattle.lb_syntax.specs.Names.{Text, IsName}
 use Rattle.lb_syntax.specs.declared.tree.Action.TheVariants.{Read, Write}
-use Rattle.lb_syntax.specs.Tree.{Term, Number, Variable, Procedure}
-use Rattle.lb_syntax.specs.Tree.{Command, Sets, Interacts, Ends, Then}
+use Rattle.lb_syntax.specs.Tree.{Term, Number, Variable, Operation, Procedure}
+use Rattle.lb_syntax.specs.Tree.{Command, Skips, Sets, Unsets, Chooses, Repeats, Interacts, Ends, Then}
+use Rattle.lb_syntax.specs.WellFormed.{IsWord}
 
--- a word or a variable
+-- words, variables and operations
 abbrev pub IsSmallTerm : Term → Type 0
-IsSmallTerm (Number n) = n < 2 ^ 32
+IsSmallTerm (Number n) = IsWord n
 IsSmallTerm (Variable x) = IsName x
+IsSmallTerm (Operation op l r) = IsSmallTerm l × IsSmallTerm r
 IsSmallTerm _ = ⊥
 
--- `x = e;`, `x = MMIOREAD(e);` or `MMIOWRITE(e, e);`
-abbrev pub IsSmallCommand : Command → Type 0
-IsSmallCommand (Sets x e) = IsName x × IsSmallTerm e
-IsSmallCommand (Interacts (x ∷ []) Read (e ∷ [])) = IsName x × IsSmallTerm e
-IsSmallCommand (Interacts [] Write (a ∷ e ∷ [])) = IsSmallTerm a × IsSmallTerm e
-IsSmallCommand _ = ⊥
+abbrev mutual
+  -- `skip;`, `x = e;`, `unset x;`, `if`, `while`, `x = MMIOREAD(e);` or `MMIOWRITE(e, e);`
+  pub IsSmallCommand : Command → Type 0
+  IsSmallCommand Skips = Unit {0}
+  IsSmallCommand (Sets x e) = IsName x × IsSmallTerm e
+  IsSmallCommand (Unsets x) = IsName x
+  IsSmallCommand (Chooses e b d) = IsSmallTerm e × IsSmallBlock b × IsSmallBlock d
+  IsSmallCommand (Repeats e b) = IsSmallTerm e × IsSmallBlock b
+  IsSmallCommand (Interacts (x ∷ []) Read (e ∷ [])) = IsName x × IsSmallTerm e
+  IsSmallCommand (Interacts [] Write (a ∷ e ∷ [])) = IsSmallTerm a × IsSmallTerm e
+  IsSmallCommand _ = ⊥
 
--- commands of these forms, one after another
-abbrev pub IsSmallBlock : Command → Type 0
-IsSmallBlock Ends = Unit {0}
-IsSmallBlock (Then c b) = IsSmallCommand c × IsSmallBlock b
-IsSmallBlock _ = ⊥
+  -- commands of these forms, one after another
+  pub IsSmallBlock : Command → Type 0
+  IsSmallBlock Ends = Unit {0}
+  IsSmallBlock (Then c b) = IsSmallCommand c × IsSmallBlock b
+  IsSmallBlock _ = ⊥
 
 -- a function of this name, without parameters and results
 pub record IsSmallProcedure (name : Text) (f : Procedure) : Type 0 where

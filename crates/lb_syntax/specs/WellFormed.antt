@@ -1,6 +1,6 @@
 -- What every tree says: names are names, numbers are words, and blocks stand where blocks belong.
-use Rattle.std.specs.Prelude.{ℕ, ◌^◌, ◌<◌, List, All}
-use Rattle.lb_syntax.specs.Names.{Text, IsName}
+use Rattle.std.specs.Prelude.{ℕ, ◌^◌, ◌<◌, All}
+use Rattle.lb_syntax.specs.Names.{IsName}
 use Rattle.lb_syntax.specs.Tree.{Term, Number, Variable, Loaded, Operation, Procedure}
 use Rattle.lb_syntax.specs.Tree.{Command, Skips, Sets, Unsets, Stores, Allocates, Chooses, Repeats, Calls, Interacts, Ends, Then}
 

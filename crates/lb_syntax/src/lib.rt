@@ -4,9 +4,11 @@
 mod laws;
 mod layout;
 mod name;
+mod nesting;
 mod tree;
 
 pub use laws::distinct_is_set_size;
 pub use layout::{FrameLayout, Layout};
 pub use name::{Name, NameFault};
+pub use nesting::brackets;
 pub use tree::{Action, Block, Cmd, Expr, Function, Op, Program, Width};
