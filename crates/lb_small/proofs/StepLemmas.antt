@@ -1,17 +1,18 @@
 -- What a run does at instruction number i of its code.
-use Rattle.std.proofs.Common.{◌≡◌, ℕ, ◌+◌, ◌*◌, ◌/◌, ◌%◌, ◌^◌, ◌≤◌, ◌<◌, inl, inr, true, false, nat_eq, nat_le, ◌&&◌, if◌then◌else◌, List, [], ◌∷◌, ◌++◌, length, Some, None, refl, ap, ◌∙◌, arith}
-use Rattle.std.proofs.lemmas.Bool.{eq-eqb, le-leb, le-ltb, lt-leb, leb-true, and_parts, or_cases}
+use Rattle.std.proofs.Common.{◌≡◌, ℕ, ◌+◌, ◌*◌, ◌/◌, ◌%◌, ◌^◌, ◌≤◌, ◌<◌, ◌≢◌, inl, inr, true, false, nat_eq, nat_le, ◌&&◌, if◌then◌else◌, List, [], ◌∷◌, ◌++◌, length, Some, None, refl, ap, ◌∙◌, arith}
+use Rattle.std.proofs.lemmas.Bool.{eq-eqb, ne_eqb, le-leb, le-ltb, lt-leb, leb-true, and_parts, or_cases}
 use Rattle.std.proofs.lemmas.Option.{slice_get_within}
 use Rattle.std.proofs.lemmas.Int.{of_z-to_z}
 use Rattle.std.specs.Prelude.{slice_get, slice_index, ℤ, pos, ◌⊎◌}
-use Rattle.std.specs.Int.{w32, cast_signed}
+use Rattle.std.specs.Int.{w32, cast_signed, cast_unsigned}
 use Rattle.lb_trace.specs.Devices.{is_device}
 use Rattle.lb_trace.specs.declared.Event.{Event}
 use Rattle.lb_trace.specs.declared.Event.TheVariants.{Ld, St}
+use Rattle.lb_word.specs.Word.{ltu_of}
 use Rattle.lb_small.specs.declared.instr.SmallInstr.{SmallInstr}
-use Rattle.lb_small.specs.declared.instr.SmallInstr.TheVariants.{Lui, Addi, Lw, Sw, Jal}
+use Rattle.lb_small.specs.declared.instr.SmallInstr.TheVariants.{Lui, Addi, Lw, Sw, Jal, Sltiu, Beq}
 use Rattle.lb_small.specs.Memory.{ProcessorState, with_register, is_in_ram, load_word, store_word}
-use Rattle.lb_small.specs.Instructions.{Effect, Waits, plus_immediate, next_address, goes_on, is_device_word, loads, stores, instruction_effect, fetched, fetched_effect}
+use Rattle.lb_small.specs.Instructions.{Effect, Waits, plus_immediate, next_address, goes_on, operates, branches, is_device_word, loads, stores, instruction_effect, fetched, fetched_effect}
 use Rattle.lb_small.specs.Runs.{Configuration, moved, moves, next_effect}
 
 -- a processor before instruction number i
@@ -132,3 +133,31 @@ module _ (code : List SmallInstr) (small : length code ≤ 32768) where
       moves-at code i registers ram replies trace n (Jal rd imm) _ _ here refl
       (ap (λ p. Some (record { processor = record { pc = p; registers = with_register registers rd (next_address (4 * i)); ram = ram }; replies = replies; trace = trace; committed = n + 1 })) is
       ∙ ap (λ v. Some (run_at j (with_register registers rd v) ram replies trace (n + 1))) (next_address-at i (Jal rd imm) here))
+
+  -- an operation on two registers; that the instruction is one is `refl` for each
+  pub moves-operates : (i : ℕ) (x : SmallInstr) (operation : ℕ → ℕ → ℕ) (rd rs1 rs2 : ℕ) (registers ram replies : List ℕ) (trace : List Event) (n : ℕ) → slice_get code i ≡ Some x
+      → ((p : ProcessorState) → instruction_effect x (4 * length code) (slice_get replies 0) p ≡ operates operation rd rs1 rs2 p)
+      → moves code (run_at i registers ram replies trace n) ≡ Some (run_at (i + 1) (with_register registers rd (operation (slice_index registers rs1) (slice_index registers rs2))) ram replies trace (n + 1))
+  moves-operates i x operation rd rs1 rs2 registers ram replies trace n here does = quiet i registers _ ram ram replies trace n x here (does (processor_at i registers ram))
+
+  -- whether a register is less than an immediate, both without a sign
+  pub moves-sltiu : (i rd rs1 : ℕ) (imm : ℤ) (registers ram replies : List ℕ) (trace : List Event) (n : ℕ) → slice_get code i ≡ Some (Sltiu rd rs1 imm)
+      → moves code (run_at i registers ram replies trace n) ≡ Some (run_at (i + 1) (with_register registers rd (ltu_of (slice_index registers rs1) (cast_unsigned w32 imm))) ram replies trace (n + 1))
+  moves-sltiu i rd rs1 imm registers ram replies trace n here = quiet i registers _ ram ram replies trace n (Sltiu rd rs1 imm) here refl
+
+  -- a branch to instruction number j that is taken
+  pub moves-beq_taken : (i rs1 rs2 : ℕ) (imm : ℤ) (j : ℕ) (registers ram replies : List ℕ) (trace : List Event) (n : ℕ) → slice_get code i ≡ Some (Beq rs1 rs2 imm)
+      → slice_index registers rs1 ≡ slice_index registers rs2 → plus_immediate (4 * i) imm ≡ 4 * j
+      → moves code (run_at i registers ram replies trace n) ≡ Some (run_at j registers ram replies trace (n + 1))
+  moves-beq_taken i rs1 rs2 imm j registers ram replies trace n here same is =
+      moves-at code i registers ram replies trace n (Beq rs1 rs2 imm) _ _ here
+      (ap (λ b. branches b imm (processor_at i registers ram)) (eq-eqb (slice_index registers rs1) (slice_index registers rs2) same))
+      (ap (λ p. Some (record { processor = record { pc = p; registers = registers; ram = ram }; replies = replies; trace = trace; committed = n + 1 })) is)
+
+  -- a branch that isn't taken
+  pub moves-beq_passed : (i rs1 rs2 : ℕ) (imm : ℤ) (registers ram replies : List ℕ) (trace : List Event) (n : ℕ) → slice_get code i ≡ Some (Beq rs1 rs2 imm)
+      → slice_index registers rs1 ≢ slice_index registers rs2
+      → moves code (run_at i registers ram replies trace n) ≡ Some (run_at (i + 1) registers ram replies trace (n + 1))
+  moves-beq_passed i rs1 rs2 imm registers ram replies trace n here other =
+      quiet i registers registers ram ram replies trace n (Beq rs1 rs2 imm) here
+      (ap (λ b. branches b imm (processor_at i registers ram)) (ne_eqb (slice_index registers rs1) (slice_index registers rs2) other))

@@ -1,4 +1,4 @@
-//! A processor for five instructions of RV32I, and its run on compiled code.
+//! A processor for the instructions of RV32I and of the M extension that compiled code is made of, and its run on such code.
 #![tactic(auto)]
 
 mod instr;

@@ -2,10 +2,11 @@
 
 ghost use Rattle.std.specs.Prelude.{◌≡◌, ◌<◌, ◌≤◌, ◌+◌, ◌*◌, length, IfOk, vec_len, slice_index};
 ghost use Rattle.lb_small.specs.Memory.{ProcessorState, booted, zeros, ram_size, with_register, load_word, store_word};
-ghost use Rattle.lb_small.specs.Instructions.{effect, fetched, goes_on, is_device_word, loads, stores, plus_immediate};
+ghost use Rattle.lb_small.specs.Instructions.{effect, instruction_effect, fetched, goes_on, sets, jumps, branches, is_device_word, loads, stores, plus_immediate};
 
 use crate::instr::{Cause, SmallInstr};
 use lb_trace::{Event, is_device_address};
+use lb_word::{add, and_, divu, lts, ltu, mul, mulhuu, or_, remu, slu, srs, sru, sub, xor};
 use std::alloc::{AllocError, Global};
 use std::marker::Model;
 
@@ -67,32 +68,88 @@ impl Processor {
                 cause: Cause::BadPc,
             };
         };
+        self.execute(instr, 4 * code.len(), reply)
+    }
+
+    // Does an instruction of a code of this many bytes.
+    fn execute(&mut self, instr: SmallInstr, code_size: usize, reply: Option<u32>) -> Stepped
+        ensures { StepsTo (instruction_effect instr code_size reply self.old) self.old self.new result }
+    {
         match instr {
-            SmallInstr::Lui { rd, imm } => {
-                set_register(&mut self.registers, rd, imm);
-                self.go_on(None)
-            }
-            SmallInstr::Addi { rd, rs1, imm } => {
-                let value = register(&self.registers, rs1).wrapping_add_signed(imm);
-                set_register(&mut self.registers, rd, value);
-                self.go_on(None)
-            }
-            SmallInstr::Lw { rd, rs1, imm } => {
-                let addr = register(&self.registers, rs1).wrapping_add_signed(imm);
-                self.load(rd, addr, reply)
-            }
+            SmallInstr::Lui { rd, imm } => self.set(rd, imm),
+            SmallInstr::Addi { rd, rs1, imm } => self.set(rd, self.sum(rs1, imm)),
+            SmallInstr::Lw { rd, rs1, imm } => self.load(rd, self.sum(rs1, imm), reply),
             SmallInstr::Sw { rs1, rs2, imm } => {
-                let addr = register(&self.registers, rs1).wrapping_add_signed(imm);
-                let value = register(&self.registers, rs2);
-                self.store(addr, value, 4 * code.len())
+                self.store(self.sum(rs1, imm), self.get(rs2), code_size)
             }
-            SmallInstr::Jal { rd, imm } => {
-                let link = self.pc.wrapping_add(4);
-                self.pc = self.pc.wrapping_add_signed(imm);
-                set_register(&mut self.registers, rd, link);
-                Stepped::Committed { event: None }
+            SmallInstr::Jal { rd, imm } => self.jump(rd, imm),
+            SmallInstr::Add { rd, rs1, rs2 } => self.set(rd, add(self.get(rs1), self.get(rs2))),
+            SmallInstr::Sub { rd, rs1, rs2 } => self.set(rd, sub(self.get(rs1), self.get(rs2))),
+            SmallInstr::Mul { rd, rs1, rs2 } => self.set(rd, mul(self.get(rs1), self.get(rs2))),
+            SmallInstr::Mulhu { rd, rs1, rs2 } => self.set(
+                rd,
+                mulhuu(self.get(rs1), self.get(rs2)),
+            ),
+            SmallInstr::Divu { rd, rs1, rs2 } => self.set(rd, divu(self.get(rs1), self.get(rs2))),
+            SmallInstr::Remu { rd, rs1, rs2 } => self.set(rd, remu(self.get(rs1), self.get(rs2))),
+            SmallInstr::And { rd, rs1, rs2 } => self.set(rd, and_(self.get(rs1), self.get(rs2))),
+            SmallInstr::Or { rd, rs1, rs2 } => self.set(rd, or_(self.get(rs1), self.get(rs2))),
+            SmallInstr::Xor { rd, rs1, rs2 } => self.set(rd, xor(self.get(rs1), self.get(rs2))),
+            SmallInstr::Srl { rd, rs1, rs2 } => self.set(rd, sru(self.get(rs1), self.get(rs2))),
+            SmallInstr::Sll { rd, rs1, rs2 } => self.set(rd, slu(self.get(rs1), self.get(rs2))),
+            SmallInstr::Sra { rd, rs1, rs2 } => self.set(rd, srs(self.get(rs1), self.get(rs2))),
+            SmallInstr::Slt { rd, rs1, rs2 } => self.set(rd, lts(self.get(rs1), self.get(rs2))),
+            SmallInstr::Sltu { rd, rs1, rs2 } => self.set(rd, ltu(self.get(rs1), self.get(rs2))),
+            SmallInstr::Sltiu { rd, rs1, imm } => {
+                self.set(rd, ltu(self.get(rs1), imm.cast_unsigned()))
+            }
+            SmallInstr::Beq { rs1, rs2, imm } => {
+                self.branch(self.get(rs1) == self.get(rs2), imm)
             }
         }
+    }
+
+    // What a register holds; 0 where there is no register of this number.
+    fn get(&self, number: u8) -> u32
+        ensures { result ≡ slice_index self.now.registers number }
+    {
+        self.registers.get(number as usize).copied().unwrap_or(0)
+    }
+
+    // What a register holds, plus an immediate.
+    fn sum(&self, rs1: u8, imm: i32) -> u32
+        ensures { result ≡ plus_immediate (slice_index self.now.registers rs1) imm }
+    {
+        self.get(rs1).wrapping_add_signed(imm)
+    }
+
+    // Sets a register and does nothing else.
+    fn set(&mut self, rd: u8, value: u32) -> Stepped
+        ensures { StepsTo (sets rd value self.old) self.old self.new result }
+    {
+        set_register(&mut self.registers, rd, value);
+        self.go_on(None)
+    }
+
+    // A jump, whose register becomes the address behind it.
+    fn jump(&mut self, rd: u8, imm: i32) -> Stepped
+        ensures { StepsTo (jumps rd imm self.old) self.old self.new result }
+    {
+        let link = self.pc.wrapping_add(4);
+        self.pc = self.pc.wrapping_add_signed(imm);
+        set_register(&mut self.registers, rd, link);
+        Stepped::Committed { event: None }
+    }
+
+    // A branch.
+    fn branch(&mut self, is_taken: bool, imm: i32) -> Stepped
+        ensures { StepsTo (branches is_taken imm self.old) self.old self.new result }
+    {
+        if !is_taken {
+            return self.go_on(None);
+        }
+        self.pc = self.pc.wrapping_add_signed(imm);
+        Stepped::Committed { event: None }
     }
 
     // Commits an instruction behind which stands the next one.
@@ -165,13 +222,6 @@ fn fetch(code: &[SmallInstr], pc: u32) -> Option<SmallInstr>
     } else {
         None
     }
-}
-
-// What a register holds; 0 where there is no register of this number.
-fn register(registers: &[u32], number: u8) -> u32
-    ensures { result ≡ slice_index registers.now number }
-{
-    registers.get(number as usize).copied().unwrap_or(0)
 }
 
 // Sets a register, unless it is register 0 or there is none of this number.
