@@ -1,0 +1,11 @@
+pub mod Simulation
+pub mod CodePlaces
+pub mod StateRelation
+pub mod NameLemmas
+pub mod Placed
+pub mod TermRuns
+pub mod CommandRuns
+pub mod CodeLemmas
+pub mod RangeLemmas
+pub mod ProgramRuns
+pub mod TheoremLemmas

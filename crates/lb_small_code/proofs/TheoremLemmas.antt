@@ -1,0 +1,169 @@
+-- The laws of the code of a program.
+use Rattle.std.proofs.Common.{◌≡◌, ℕ, zero, suc, ◌+◌, ◌*◌, ◌%◌, ◌≤◌, List, [], ◌∷◌, ◌++◌, length, codes, refl, sym, ap, subst, arith}
+use Rattle.std.proofs.lemmas.List.Elements.{All-nil, All-head, All-tail}
+use Rattle.lb_syntax.specs.declared.tree.Action.TheVariants.{Read, Write}
+use Rattle.lb_syntax.specs.Tree.{Procedure}
+use Rattle.lb_syntax.specs.Tree.{Command, Skips, Sets, Unsets, Chooses, Repeats, Interacts, Ends, Then}
+use Rattle.lb_syntax.specs.Needs.{sites, variables, greatest_jump, greatest_depth, procedure_names, code_need, frame_need, most_jump, most_frame, IsWithinLimits}
+use Rattle.lb_syntax.specs.Layouts.{IsFrameOf, AreFramesOf, IsValidLayout}
+use Rattle.lb_syntax.specs.Small.{IsSmallCommand, IsSmallBlock, IsSmallProcedure}
+use Rattle.lb_syntax.specs.declared.layout.FrameLayout.{FrameLayout}
+use Rattle.lb_syntax.specs.declared.layout.Layout.{Layout}
+use Rattle.lb_source.specs.Source.{callables, start, whole}
+use Rattle.lb_source.specs.declared.ends.SourceRun.{SourceRun}
+use Rattle.lb_small.specs.Ranges.{AreInRange}
+use Rattle.lb_small.specs.Runs.{Configuration, moves, isa, IsHalted}
+use Rattle.lb_small.specs.Runs as runs
+use Rattle.lb_small.proofs.MoveLemmas.{moves-extends, moves-halted, moves-waits, IsHalted-waits}
+use Rattle.lb_small_code.specs.Slots.{slot_names, frame_words, frame_of}
+use Rattle.lb_small_code.specs.Code.{program_code}
+use Rattle.lb_small_code.specs.Correct.{AreWords, Follows, Reaches}
+use Rattle.lb_small_code.specs.Laws.{CodeFollows, CodeReaches, CodeIsWithinNeed, CodeIsInRange, LayoutIsValid}
+use Rattle.lb_small_code.proofs.Simulation.{Finishes, suc_times, agrees, stands_to_wait, reaches}
+use Rattle.lb_small_code.proofs.NameLemmas.{length-with_names}
+use Rattle.lb_small_code.proofs.Placed.{IsPlaced, procedure_placed}
+use Rattle.lb_small_code.proofs.CommandRuns.{trace_of, IsWaiting}
+use Rattle.lb_small_code.proofs.CodeLemmas.{program_within_need}
+use Rattle.lb_small_code.proofs.RangeLemmas.{program_in_range}
+use Rattle.lb_small_code.proofs.ProgramRuns.{whole-small, program_finishes}
+
+-- ---- needs
+
+times_more : (k a b : ℕ) → a ≤ b → k * a ≤ k * b
+times_more zero a b h = omega arith
+times_more (suc k) a b h = omega (arith, h, suc_times k a, suc_times k b, times_more k a b h)
+
+more_times : (n a b : ℕ) → a ≤ b → 0 + suc n * a ≤ (n + 1) * b
+more_times n a b h = let one : n + 1 ≡ suc n = omega arith in
+    subst (λ k. 0 + suc n * a ≤ k * b) (sym one) (omega (arith, times_more (suc n) a b h))
+
+-- as many slots as variables
+pub slots_each : (f : Procedure) → length (slot_names f) ≡ variables f
+slots_each f = length-with_names (procedure_names f)
+
+-- a frame within its limit has few words
+few_words : (f : Procedure) → frame_need f ≤ most_frame → frame_words f ≤ 474
+few_words f h = omega (arith, slots_each f, h)
+
+module _ (f g : Procedure) (is_init : IsSmallProcedure (codes "init") f) (is_loop : IsSmallProcedure (codes "loop") g) where
+  placed_f : IsPlaced (slot_names f) (greatest_depth f.body) f.body
+  placed_f = procedure_placed f is_init.small
+
+  placed_g : IsPlaced (slot_names g) (greatest_depth g.body) g.body
+  placed_g = procedure_placed g is_loop.small
+
+  within_need : (1 ≤ length (program_code (f ∷ g ∷ []))) × (length (program_code (f ∷ g ∷ [])) ≤ code_need (f ∷ g ∷ []))
+  within_need = program_within_need f g (greatest_depth f.body) (greatest_depth g.body) placed_f placed_g
+
+  module _ (limits : IsWithinLimits (f ∷ g ∷ [])) where
+    few_f : frame_words f ≤ 474
+    few_f = few_words f (All-head (λ (h : Procedure). frame_need h ≤ most_frame) f (g ∷ []) limits.frames)
+
+    few_g : frame_words g ≤ 474
+    few_g = few_words g (All-head (λ (h : Procedure). frame_need h ≤ most_frame) g [] (All-tail (λ (h : Procedure). frame_need h ≤ most_frame) f (g ∷ []) limits.frames))
+
+    in_range : AreInRange (program_code (f ∷ g ∷ []))
+    in_range =
+        let jumps = limits.jumps in
+        program_in_range f g few_f few_g placed_f placed_g (All-head (λ (h : Procedure). greatest_jump h.body ≤ most_jump) f (g ∷ []) jumps)
+        (All-head (λ (h : Procedure). greatest_jump h.body ≤ most_jump) g [] (All-tail (λ (h : Procedure). greatest_jump h.body ≤ most_jump) f (g ∷ []) jumps)) (omega (arith, limits.code))
+
+    small : length (program_code (f ∷ g ∷ [])) ≤ 32768
+    small = omega (arith, within_need.1, limits.code)
+
+    -- the whole run, in frames of any layout
+    finishes : (frames : List FrameLayout) (all : List ℕ) (n : ℕ) → AreFramesOf frames (f ∷ g ∷ []) → AreWords all
+        → Finishes (moves (program_code (f ∷ g ∷ []))) trace_of (IsWaiting (program_code (f ∷ g ∷ []))) (length (program_code (f ∷ g ∷ []))) 0 (runs.start all) (suc n)
+        (whole (callables (f ∷ g ∷ []) frames) n (start n all))
+    finishes (a ∷ b ∷ []) all n fit are_words =
+        let code = program_code (f ∷ g ∷ []) in
+        subst (λ (r : SourceRun). Finishes (moves code) trace_of (IsWaiting code) (length code) 0 (runs.start all) (suc n) r)
+        (sym (whole-small f g a b n (start n all) is_init is_loop))
+        (program_finishes f g a b few_f few_g placed_f placed_g small (callables (f ∷ g ∷ []) (a ∷ b ∷ [])) all n are_words)
+    finishes [] all n fit are_words = absurd fit
+    finishes (a ∷ []) all n fit are_words = absurd fit.1
+    finishes (a ∷ b ∷ c ∷ frames) all n fit are_words = absurd fit.1.1
+
+    follows : (layout : Layout) → IsValidLayout layout (f ∷ g ∷ []) → Follows (f ∷ g ∷ []) layout (program_code (f ∷ g ∷ []))
+    follows layout valid =
+        let code = program_code (f ∷ g ∷ []) in record {
+          agrees = λ replies n are_words ok.
+              agrees (moves-extends code) (moves-waits code) {n = n} _ _ (omega arith) ok (finishes layout.frames replies n valid are_words);
+          runs = λ replies n are_words ok halted.
+              IsHalted-waits code (isa code replies n)
+              (stands_to_wait (moves-extends code) (moves-waits code) {n = n} _ _ (omega arith) ok (finishes layout.frames replies n valid are_words) (moves-halted code (isa code replies n) halted)) halted;
+        }
+
+    reaches_all : (layout : Layout) → IsValidLayout layout (f ∷ g ∷ []) → Reaches (f ∷ g ∷ []) layout (program_code (f ∷ g ∷ []))
+    reaches_all layout valid =
+        let code = program_code (f ∷ g ∷ []) in record {
+          comes = λ replies n are_words ok.
+              reaches (moves-extends code) (moves-waits code) _ _ (more_times n (length code) (code_need (f ∷ g ∷ [])) within_need.1) ok (finishes layout.frames replies n valid are_words);
+        }
+
+-- ---- frames
+
+both_empty : {A : Type 0} (xs ys : List A) → xs ≡ [] → ys ≡ [] → xs ++ ys ≡ []
+both_empty [] ys h k = k
+both_empty (x ∷ xs) ys h k = cc
+
+mutual
+  command_sites : (c : Command) → IsSmallCommand c → sites c ≡ []
+  command_sites Skips h = refl
+  command_sites (Sets x e) h = refl
+  command_sites (Unsets x) h = refl
+  command_sites (Chooses e b d) h = both_empty (sites b) (sites d) (block_sites b h.1) (block_sites d h.2)
+  command_sites (Repeats e b) h = block_sites b h.1
+  command_sites (Interacts (x ∷ []) Read (a ∷ [])) h = refl
+  command_sites (Interacts [] Write (a ∷ e ∷ [])) h = refl
+  command_sites _ h = absurd h
+
+  block_sites : (b : Command) → IsSmallBlock b → sites b ≡ []
+  block_sites Ends h = refl
+  block_sites (Then c b) h = both_empty (sites c) (sites b) (command_sites c h.0) (block_sites b h.1)
+  block_sites _ h = absurd h
+
+-- the frame of a function without blocks of memory
+frame_fits : (f : Procedure) → IsSmallBlock f.body → IsFrameOf (frame_of f) f
+frame_fits f h =
+    let none : length (sites f.body) ≡ 0 = ap length (block_sites f.body h) in
+    record {
+      offset_each = sym none;
+      whole = omega arith;
+      small = omega (arith, slots_each f);
+      aligned = All-nil (λ (offset : ℕ). offset % 4 ≡ 0);
+      inside = λ k lt. absurd (omega (arith, none, lt));
+      apart = λ j k lt le. absurd (omega (arith, none, le));
+    }
+
+-- ---- the laws
+
+pub code_follows : CodeFollows
+code_follows [] layout h limits valid = absurd h
+code_follows (f ∷ []) layout h limits valid = absurd h
+code_follows (f ∷ g ∷ []) layout h limits valid = follows f g h.0 h.1 limits layout valid
+code_follows (f ∷ g ∷ k ∷ p) layout h limits valid = absurd h
+
+pub code_reaches : CodeReaches
+code_reaches [] layout h limits valid = absurd h
+code_reaches (f ∷ []) layout h limits valid = absurd h
+code_reaches (f ∷ g ∷ []) layout h limits valid = reaches_all f g h.0 h.1 limits layout valid
+code_reaches (f ∷ g ∷ k ∷ p) layout h limits valid = absurd h
+
+pub code_is_within_need : CodeIsWithinNeed
+code_is_within_need [] h = absurd h
+code_is_within_need (f ∷ []) h = absurd h
+code_is_within_need (f ∷ g ∷ []) h = within_need f g h.0 h.1
+code_is_within_need (f ∷ g ∷ k ∷ p) h = absurd h
+
+pub code_is_in_range : CodeIsInRange
+code_is_in_range [] h limits = absurd h
+code_is_in_range (f ∷ []) h limits = absurd h
+code_is_in_range (f ∷ g ∷ []) h limits = in_range f g h.0 h.1 limits
+code_is_in_range (f ∷ g ∷ k ∷ p) h limits = absurd h
+
+pub layout_is_valid : LayoutIsValid
+layout_is_valid [] h = absurd h
+layout_is_valid (f ∷ []) h = absurd h
+layout_is_valid (f ∷ g ∷ []) h = (frame_fits f h.0.small, (frame_fits g h.1.small, tt))
+layout_is_valid (f ∷ g ∷ k ∷ p) h = absurd h

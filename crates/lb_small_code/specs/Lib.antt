@@ -1,0 +1,4 @@
+pub mod Slots
+pub mod Code
+pub mod Correct
+pub mod Laws
