@@ -1,14 +1,17 @@
--- The limits on a program of two functions, and the layout of its frames.
-use Rattle.std.proofs.Common.{◌≡◌, ℕ, ◌*◌, ◌%◌, ◌<◌, ◌≤◌, List, [], ◌∷◌, length, sym, ap, arith}
+-- The limits on a program of two functions, and its frames.
+use Rattle.std.proofs.Common.{◌≡◌, ℕ, ◌+◌, ◌*◌, ◌<◌, ◌≤◌, List, [], ◌∷◌, ◌++◌, length, sum, sym, ap, ◌∙◌, subst, zero-add, arith}
 use Rattle.std.proofs.lemmas.List.Elements.{All-nil, All-cons, All-head, All-tail}
 use Rattle.lb_syntax.specs.Names.{Text}
 use Rattle.lb_syntax.specs.Tree.{Procedure}
-use Rattle.lb_syntax.specs.Needs.{sites, variables, greatest_jump, code_need, frame_need, most_words, most_jump, most_frame, IsWithinLimits}
-use Rattle.lb_syntax.specs.Layouts.{IsFrameOf, IsValidLayout}
-use Rattle.lb_syntax.specs.Small.{IsSmallBlock}
+use Rattle.lb_syntax.specs.Needs.{command_names, procedure_names, distinct, variables, greatest_depth, greatest_jump, code_need, frame_need, most_words, most_jump, most_frame, IsWithinLimits}
+use Rattle.lb_syntax.specs.Layouts.{AreFramesOf, IsValidLayout}
+use Rattle.lb_syntax.specs.Small.{IsSmallBlock, IsSmall}
+use Rattle.lb_syntax.specs.declared.layout.FrameLayout.{FrameLayout}
 use Rattle.lb_syntax.specs.declared.layout.Layout.{Layout}
-use Rattle.lb_small_compile.specs.Slots.{slot_names}
-use Rattle.lb_small_compile.proofs.BlockLemmas.{small_sites, small_jumps}
+use Rattle.lb_small_code.specs.Slots.{with_names, slot_names, frame_words}
+use Rattle.lb_small_code.proofs.NameLemmas.{length-with_names}
+use Rattle.lb_small_code.proofs.TheoremLemmas.{layout_is_valid}
+use Rattle.lb_small_compile.proofs.SmallParts.{block_sites}
 
 abbrev HasJumps : Procedure → Type 0
 HasJumps f = greatest_jump f.body ≤ most_jump
@@ -16,39 +19,51 @@ HasJumps f = greatest_jump f.body ≤ most_jump
 abbrev HasFrame : Procedure → Type 0
 HasFrame f = frame_need f ≤ most_frame
 
-pub within_limits : (f g : Procedure) → IsSmallBlock f.body → IsSmallBlock g.body → code_need (f ∷ g ∷ []) ≤ most_words
+pub within_limits : (f g : Procedure) → code_need (f ∷ g ∷ []) ≤ most_words → greatest_jump f.body ≤ most_jump → greatest_jump g.body ≤ most_jump
     → frame_need f ≤ most_frame → frame_need g ≤ most_frame → IsWithinLimits (f ∷ g ∷ [])
-within_limits f g hf hg code first second = record {
+within_limits f g code first_jumps second_jumps first second = record {
   code = code;
-  jumps = All-cons HasJumps f (g ∷ []) (omega (arith, small_jumps f.body hf)) (All-cons HasJumps g [] (omega (arith, small_jumps g.body hg)) (All-nil HasJumps));
+  jumps = All-cons HasJumps f (g ∷ []) first_jumps (All-cons HasJumps g [] second_jumps (All-nil HasJumps));
   frames = All-cons HasFrame f (g ∷ []) first (All-cons HasFrame g [] second (All-nil HasFrame));
 }
+
+pub first_jump_over : (f g : Procedure) → most_jump < greatest_jump f.body → IsWithinLimits (f ∷ g ∷ []) → ⊥
+first_jump_over f g h w = let k = All-head HasJumps f (g ∷ []) w.jumps in omega arith
+
+pub second_jump_over : (f g : Procedure) → most_jump < greatest_jump g.body → IsWithinLimits (f ∷ g ∷ []) → ⊥
+second_jump_over f g h w = let k = All-head HasJumps g [] (All-tail HasJumps f (g ∷ []) w.jumps) in omega arith
 
 pub first_frame_over : (f g : Procedure) → most_frame < frame_need f → IsWithinLimits (f ∷ g ∷ []) → ⊥
 first_frame_over f g h w = let k = All-head HasFrame f (g ∷ []) w.frames in omega arith
 
 pub second_frame_over : (f g : Procedure) → most_frame < frame_need g → IsWithinLimits (f ∷ g ∷ []) → ⊥
-second_frame_over f g h w =
-    let rest = All-tail HasFrame f (g ∷ []) w.frames in
-    let k = All-head HasFrame g [] rest in omega arith
+second_frame_over f g h w = let k = All-head HasFrame g [] (All-tail HasFrame f (g ∷ []) w.frames) in omega arith
 
--- a frame of slots alone
-frame_fits : (f : Procedure) → IsSmallBlock f.body → (n : ℕ) → n ≡ variables f → IsFrameOf (record { size = 4 * n; sites = [] }) f
-frame_fits f h n e =
-    let none : length (sites f.body) ≡ 0 = ap length (small_sites f.body h) in
-    record {
-      offset_each = sym none;
-      whole = omega arith;
-      small = omega (arith, e);
-      aligned = All-nil (λ (offset : ℕ). offset % 4 ≡ 0);
-      inside = λ k lt. absurd (omega (arith, none, lt));
-      apart = λ j k lt le. absurd (omega (arith, none, le));
-    }
+-- a function without parameters and results names what its commands name
+small_names : (f : Procedure) → f.params ≡ [] → f.results ≡ [] → procedure_names f ≡ command_names f.body
+small_names f p r = ap (λ (ps : List Text). ps ++ (f.results ++ command_names f.body)) p ∙ ap (λ (rs : List Text). rs ++ command_names f.body) r
 
-pub layout_fits : (layout : Layout) (f g : Procedure) (m n : ℕ) → IsSmallBlock f.body → IsSmallBlock g.body → m ≡ variables f → n ≡ variables g
+pub slot_names-small : (f : Procedure) → f.params ≡ [] → f.results ≡ [] → slot_names f ≡ with_names [] (command_names f.body)
+slot_names-small f p r = ap (with_names []) (small_names f p r)
+
+pub variables-small : (f : Procedure) → f.params ≡ [] → f.results ≡ [] → variables f ≡ length (with_names [] (command_names f.body))
+variables-small f p r = ap distinct (small_names f p r) ∙ sym (length-with_names (command_names f.body))
+
+-- a function without blocks of memory asks for the words of its variables and operands, and 34
+pub frame_need-small : (f : Procedure) → f.params ≡ [] → f.results ≡ [] → IsSmallBlock f.body
+    → frame_need f ≡ 4 * (length (with_names [] (command_names f.body)) + greatest_depth f.body + 34)
+frame_need-small f p r h =
+    ap (λ (ns : List ℕ). sum ns + 4 * (variables f + greatest_depth f.body + 34)) (block_sites f.body h)
+    ∙ zero-add (4 * (variables f + greatest_depth f.body + 34))
+    ∙ ap (λ n. 4 * (n + greatest_depth f.body + 34)) (variables-small f p r)
+
+-- two frames of so many words, without blocks
+abbrev two_frames : ℕ → ℕ → List FrameLayout
+two_frames m n = record { size = 4 * m; sites = [] } ∷ record { size = 4 * n; sites = [] } ∷ []
+
+-- frames of as many words as the code uses make a valid layout
+pub layout_fits : (layout : Layout) (f g : Procedure) (m n : ℕ) → IsSmall (f ∷ g ∷ []) → m ≡ frame_words f → n ≡ frame_words g
     → layout.frames ≡ record { size = 4 * m; sites = [] } ∷ record { size = 4 * n; sites = [] } ∷ [] → IsValidLayout layout (f ∷ g ∷ [])
-layout_fits layout f g m n hf hg first second e = rw e (frame_fits f hf m first, (frame_fits g hg n second, tt))
-
--- a frame within its limit has few slots
-pub few_slots : (f : Procedure) (slots : List Text) → slots ≡ slot_names f → length slots ≡ variables f → frame_need f ≤ most_frame → length (slot_names f) ≤ 474
-few_slots f slots e v h = omega (arith, ap length e, v, h)
+layout_fits layout f g m n h first second e =
+    let frames = e ∙ ap (λ k. two_frames k n) first ∙ ap (two_frames (frame_words f)) second in
+    subst (λ (fs : List FrameLayout). AreFramesOf fs (f ∷ g ∷ [])) (sym frames) (layout_is_valid (f ∷ g ∷ []) h)

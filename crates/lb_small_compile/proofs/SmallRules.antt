@@ -1,22 +1,14 @@
 -- A program of the part that keeps its limits keeps every rule.
-use Rattle.std.proofs.Common.{◌≡◌, ℕ, zero, suc, ◌≤◌, false, List, [], ◌∷◌, ◌++◌, length, map, refl, sym, ap, ◌∙◌, subst, arith, lit≤, All, Contains}
+use Rattle.std.proofs.Common.{◌≡◌, ℕ, zero, suc, ◌≤◌, false, List, [], ◌∷◌, length, map, refl, sym, ap, ◌∙◌, subst, arith, lit≤, All, Contains}
 use Rattle.std.specs.Prelude.{codes}
-use Rattle.std.proofs.lemmas.List.Elements.{All-contains, All-append}
-use Rattle.lb_syntax.specs.declared.tree.Action.TheVariants.{Read, Write}
+use Rattle.std.proofs.lemmas.List.Elements.{All-nil, All-contains}
 use Rattle.lb_syntax.specs.Names.{Text, is_among, AreDistinct}
-use Rattle.lb_syntax.specs.Tree.{Command, Sets, Interacts, Ends, Then, Procedure}
+use Rattle.lb_syntax.specs.Tree.{Procedure}
 use Rattle.lb_syntax.specs.Needs.{frame_need, IsWithinLimits}
-use Rattle.lb_syntax.specs.Calls.{CallSite, calls, accesses, callees, IsCallPath, IsRecursive, path_need}
-use Rattle.lb_syntax.specs.Rules.{IsBlockSize, IsGoodCall, IsGoodAccess, KeepsFunctionRules, KeepsRules}
-use Rattle.lb_syntax.specs.Small.{IsSmallCommand, IsSmallBlock, IsSmallProcedure, IsSmall}
-use Rattle.lb_small_compile.proofs.BlockLemmas.{small_sites}
-
-All-nil : {A : Type 0} (P : A → Type 0) → All P []
-All-nil P k d h = absurd (omega arith)
-
-All-one : {A : Type 0} (P : A → Type 0) (x : A) → P x → All P (x ∷ [])
-All-one P x p zero d h = p
-All-one P x p (suc k) d h = absurd (omega arith)
+use Rattle.lb_syntax.specs.Calls.{CallSite, callees, IsCallPath, IsRecursive, path_need}
+use Rattle.lb_syntax.specs.Rules.{IsBlockSize, IsGoodCall, KeepsFunctionRules, KeepsRules}
+use Rattle.lb_syntax.specs.Small.{IsSmallProcedure, IsSmall}
+use Rattle.lb_small_compile.proofs.SmallParts.{block_sites, block_calls, block_accesses}
 
 All-two : {A : Type 0} (P : A → Type 0) (x y : A) → P x → P y → All P (x ∷ y ∷ [])
 All-two P x y p q zero d h = p
@@ -27,30 +19,6 @@ All-two P x y p q (suc (suc k)) d h = absurd (omega arith)
 in_nothing : {A : Type 0} (xs : List A) (x : A) → xs ≡ [] → Contains xs x → ⊥
 in_nothing [] x e h = absurd (omega (arith, h.1))
 in_nothing (y ∷ ys) x e h = cc
-
--- the part has no calls
-command_calls : (c : Command) → IsSmallCommand c → calls c ≡ []
-command_calls (Sets x e) h = refl
-command_calls (Interacts (x ∷ []) Read (e ∷ [])) h = refl
-command_calls (Interacts [] Write (a ∷ e ∷ [])) h = refl
-command_calls _ h = absurd h
-
-block_calls : (b : Command) → IsSmallBlock b → calls b ≡ []
-block_calls Ends h = refl
-block_calls (Then c b) h = ap (λ xs. xs ++ calls b) (command_calls c h.0) ∙ block_calls b h.1
-block_calls _ h = absurd h
-
--- its accesses have their shapes
-command_accesses : (c : Command) → IsSmallCommand c → All IsGoodAccess (accesses c)
-command_accesses (Sets x e) h = All-nil IsGoodAccess
-command_accesses (Interacts (x ∷ []) Read (e ∷ [])) h = All-one IsGoodAccess (record { targets = x ∷ []; action = Read; arguments = e ∷ [] }) (refl, refl)
-command_accesses (Interacts [] Write (a ∷ e ∷ [])) h = All-one IsGoodAccess (record { targets = []; action = Write; arguments = a ∷ e ∷ [] }) (refl, refl)
-command_accesses _ h = absurd h
-
-block_accesses : (b : Command) → IsSmallBlock b → All IsGoodAccess (accesses b)
-block_accesses Ends h = All-nil IsGoodAccess
-block_accesses (Then c b) h = All-append IsGoodAccess (accesses c) (accesses b) (command_accesses c h.0) (block_accesses b h.1)
-block_accesses _ h = absurd h
 
 no_callees : (name : Text) (f : Procedure) → IsSmallProcedure name f → callees f ≡ []
 no_callees name f h = ap (map (λ (site : CallSite). site.function)) (block_calls f.body h.small)
@@ -74,7 +42,7 @@ keeps_function_rules p name f h = record {
   entry = λ _. (h.no_params, h.no_results);
   few_params = subst (λ xs. length xs ≤ 8) (sym h.no_params) (lit≤ tt);
   few_results = subst (λ xs. length xs ≤ 8) (sym h.no_results) (lit≤ tt);
-  block_sizes = subst (All IsBlockSize) (sym (small_sites f.body h.small)) (All-nil IsBlockSize);
+  block_sizes = subst (All IsBlockSize) (sym (block_sites f.body h.small)) (All-nil IsBlockSize);
   good_calls = subst (All (IsGoodCall p)) (sym (block_calls f.body h.small)) (All-nil (IsGoodCall p));
   good_accesses = block_accesses f.body h.small;
   no_recursion = not_recursive p f (no_callees name f h);

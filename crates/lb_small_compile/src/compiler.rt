@@ -1,29 +1,30 @@
 // From a program to its instructions and the layout of its frames.
-ghost use Rattle.std.specs.Prelude.{◌≡◌, ◌≤◌, ◌*◌, [], ◌∷◌, codes, map, length, All, IfOk, OnOk, IsErrOf};
+ghost use Rattle.std.specs.Prelude.{◌≡◌, ◌≤◌, ◌+◌, ◌*◌, [], ◌∷◌, codes, map, length, All, IfOk, OnOk, IsErrOf};
 ghost use Rattle.lb_syntax.specs.Tree.{procedure_of, program_of};
-ghost use Rattle.lb_syntax.specs.Needs.{code_need, variables, IsWithinLimits};
+ghost use Rattle.lb_syntax.specs.Needs.{code_need, variables, greatest_depth, IsWithinLimits};
 ghost use Rattle.lb_syntax.specs.Layouts.{IsValidLayout};
 ghost use Rattle.lb_syntax.specs.Rules.{KeepsRules};
 ghost use Rattle.lb_syntax.specs.Small.{IsSmall, IsSmallProcedure};
 ghost use Rattle.lb_small.specs.Ranges.{IsInRange};
-ghost use Rattle.lb_small_compile.specs.Code.{program_code};
-ghost use Rattle.lb_small_compile.specs.Correct.{Follows, Reaches};
+ghost use Rattle.lb_small_code.specs.Slots.{layout_of};
+ghost use Rattle.lb_small_code.specs.Code.{program_code};
+ghost use Rattle.lb_small_code.specs.Correct.{Follows, Reaches};
 
 use crate::emit::emit_program;
 use crate::error::CompileError;
-use crate::needs::check_code_need;
-use crate::slots::Slots;
+use crate::frame::{Frame, make_layout};
+use crate::needs::{are_jumps_within, is_code_within};
 use lb_small::SmallInstr;
-use lb_syntax::{FrameLayout, Function, Layout, Program};
-use sqlite_items::Items;
-use std::alloc::{AllocError, Global};
+use lb_syntax::{Function, Layout, Program};
+use std::alloc::Global;
 
 /// Code and the layout of its frames.
 #[derive(Drop)]
 pub struct Compiled {
     /// The instructions; execution begins with the first.
     pub code: Vec<SmallInstr>,
-    /// The frame of each function: a slot of 4 bytes for each of its variables.
+    /// The frame of each function: a slot of 4 bytes for each of its variables, and behind them 4 bytes for each operand
+    /// that its deepest expression may have to keep.
     pub layout: Layout,
 }
 
@@ -36,9 +37,10 @@ pub fn compile(alloc: Global, program: &Program) -> Result<Compiled, CompileErro
     ensures words { IfOk result (λ c. (1 ≤ length c.code.items) × (length c.code.items ≤ code_need (program_of program.now))) }
     ensures in_range { IfOk result (λ c. All IsInRange c.code.items) }
 
-    // A valid layout, whose frames have a slot for each variable and nothing else.
+    // A valid layout, whose frames have a slot for each variable, as many temporaries as the deepest expression is deep, and
+    // nothing else.
     ensures layout { IfOk result (λ c. IsValidLayout c.layout (program_of program.now)) }
-    ensures slots { IfOk result (λ c. map (λ frame. frame.size) c.layout.frames ≡ map (λ f. 4 * variables f) (program_of program.now)) }
+    ensures slots { IfOk result (λ c. map (λ frame. frame.size) c.layout.frames ≡ map (λ f. 4 * (variables f + greatest_depth f.body)) (program_of program.now)) }
 
     // Every run of the code does what the program does under the layout, and comes as far.
     ensures follows { IfOk result (λ c. Follows (program_of program.now) c.layout c.code.items) }
@@ -71,37 +73,24 @@ fn compile_functions(
         IfOk result (λ c. Follows p c.layout c.code.items × Reaches p c.layout c.code.items) }
     ensures layout { IfOk result (λ c. IsValidLayout c.layout (procedure_of init.now ∷ procedure_of again.now ∷ [])) }
     ensures slots { let p = procedure_of init.now ∷ procedure_of again.now ∷ [] in
-        IfOk result (λ c. map (λ frame. frame.size) c.layout.frames ≡ map (λ f. 4 * variables f) p) }
+        IfOk result (λ c. map (λ frame. frame.size) c.layout.frames ≡ map (λ f. 4 * (variables f + greatest_depth f.body)) p) }
     ensures within { OnOk result (IsWithinLimits (procedure_of init.now ∷ procedure_of again.now ∷ [])) }
     ensures rules { OnOk result (KeepsRules (procedure_of init.now ∷ procedure_of again.now ∷ [])) }
     ensures over { IsErrOf result CompileError.OverLimit → ¬ (IsWithinLimits (procedure_of init.now ∷ procedure_of again.now ∷ [])) }
 {
-    check_code_need(init, again)?;
-    let init_slots = Slots::of(alloc, init)?;
-    let again_slots = Slots::of(alloc, again)?;
-    let mut code = Vec::new(alloc);
-    emit_program(&mut code, init, &init_slots, again, &again_slots)?;
-    let layout = layout_of(alloc, &init_slots, &again_slots)?;
-    Ok(Compiled { code, layout })
-}
-
-// The frames of `init` and `loop`.
-fn layout_of(alloc: Global, init_slots: &Slots, again_slots: &Slots) -> Result<Layout, AllocError>
-    ensures { IfOk result (λ layout. layout.frames
-        ≡ record { size = 4 * length init_slots.now; sites = [] } ∷ record { size = 4 * length again_slots.now; sites = [] } ∷ []) }
-{
-    let mut frames = Items::new(alloc);
-    frames.push(frame_of(alloc, init_slots))?;
-    frames.push(frame_of(alloc, again_slots))?;
-    Ok(Layout { frames })
-}
-
-// A frame of these slots.
-fn frame_of(alloc: Global, slots: &Slots) -> FrameLayout
-    ensures { result ≡ record { size = 4 * length slots.now; sites = [] } }
-{
-    FrameLayout {
-        size: slots.size(),
-        sites: Items::new(alloc),
+    if !is_code_within(init, again) {
+        return Err(CompileError::OverLimit);
     }
+    if !are_jumps_within(&init.body) {
+        return Err(CompileError::OverLimit);
+    }
+    if !are_jumps_within(&again.body) {
+        return Err(CompileError::OverLimit);
+    }
+    let init_frame = Frame::of(alloc, init)?;
+    let again_frame = Frame::of(alloc, again)?;
+    let mut code = Vec::new(alloc);
+    emit_program(&mut code, init, &init_frame, again, &again_frame)?;
+    let layout = make_layout(alloc, &init_frame, &again_frame)?;
+    Ok(Compiled { code, layout })
 }

@@ -1,27 +1,17 @@
 // The instructions of a program.
-ghost use Rattle.std.specs.Prelude.{◌≡◌, ◌≤◌, ◌<◌, ◌^◌, ◌*◌, [], ◌∷◌, ◌++◌, length, OnOk};
-ghost use Rattle.lb_syntax.specs.Tree.{block_of, procedure_of};
-ghost use Rattle.lb_syntax.specs.Needs.{words, most_words};
-ghost use Rattle.lb_syntax.specs.Small.{IsSmallBlock};
-ghost use Rattle.lb_small_compile.specs.Forms.{form_command, operand_term};
-ghost use Rattle.lb_small_compile.specs.Slots.{slot_names};
-ghost use Rattle.lb_small_compile.specs.Code.{immediate, minus, word_code, term_code, command_code, block_code, frame_code, program_code, slot_offset};
+ghost use Rattle.std.specs.Prelude.{◌≡◌, ◌<◌, ◌≤◌, ◌*◌, ◌+◌, ◌-◌, [], ◌∷◌, ◌++◌, map, length, slice_set, IfOk, OnOk};
+ghost use Rattle.lb_syntax.specs.Tree.{Interacts, term_of, command_of, block_of, procedure_of};
+ghost use Rattle.lb_syntax.specs.Needs.{depth, greatest_depth, most_frame, term_words, words, most_words};
+ghost use Rattle.lb_syntax.specs.Small.{IsSmallTerm, IsSmallCommand, IsSmallBlock};
+ghost use Rattle.lb_small_code.specs.Slots.{slot_names, frame_words};
+ghost use Rattle.lb_small_code.specs.Code.{immediate, minus, slot_offset, term_code, choice_code, loop_code, command_code, frame_code, program_code};
 
-use crate::form::{Form, Operand};
-use crate::read::form_of;
+use crate::frame::Frame;
 use crate::slots::Slots;
+use crate::terms::{EARLIER, STACK, VALUE, ZERO, emit_term, negated, put, put_away, take_back};
 use lb_small::SmallInstr;
-use lb_syntax::{Block, Function, Name};
+use lb_syntax::{Action, Block, Cmd, Expr, Function, Name};
 use std::alloc::AllocError;
-
-// The register that is always 0, the stack pointer, and those of a command's operands.
-const ZERO: u8 = 0;
-
-const STACK: u8 = 2;
-
-const FIRST: u8 = 5;
-
-const SECOND: u8 = 6;
 
 // The address behind the stack.
 const STACK_END: u32 = 0x40000;
@@ -30,48 +20,33 @@ const STACK_END: u32 = 0x40000;
 pub fn emit_program(
     code: &mut Vec<SmallInstr>,
     init: &Function,
-    init_slots: &Slots,
+    init_frame: &Frame,
     again: &Function,
-    again_slots: &Slots,
+    again_frame: &Frame,
 ) -> Result<(), AllocError>
     requires empty { code.old.items ≡ [] }
     requires init_small { IsSmallBlock (block_of init.now.body) }
-    requires init_slots { init_slots.now ≡ slot_names (procedure_of init.now) }
+    requires init_slots { init_frame.now.slots ≡ slot_names (procedure_of init.now) }
+    requires init_words { init_frame.now.words ≡ frame_words (procedure_of init.now) }
+    requires init_fits { 4 * (frame_words (procedure_of init.now) + 34) ≤ most_frame }
     requires again_small { IsSmallBlock (block_of again.now.body) }
-    requires again_slots { again_slots.now ≡ slot_names (procedure_of again.now) }
-    requires room { words (block_of again.now.body) ≤ most_words }
+    requires again_slots { again_frame.now.slots ≡ slot_names (procedure_of again.now) }
+    requires again_words { again_frame.now.words ≡ frame_words (procedure_of again.now) }
+    requires again_fits { 4 * (frame_words (procedure_of again.now) + 34) ≤ most_frame }
+    requires room { 5 + words (block_of init.now.body) + words (block_of again.now.body) ≤ most_words }
     ensures { OnOk result (code.new.items ≡ program_code (procedure_of init.now ∷ procedure_of again.now ∷ [])) }
 {
-    emit_frame(code, init_slots)?;
-    emit_block(code, init_slots, &init.body)?;
-    emit_frame(code, again_slots)?;
-    emit_repeated(code, again_slots, &again.body)?;
-    Ok(())
-}
-
-// The commands of a block, and a jump back to the first of them.
-fn emit_repeated(code: &mut Vec<SmallInstr>, slots: &Slots, block: &Block) -> Result<(), AllocError>
-    requires small { IsSmallBlock (block_of block.now) }
-    requires room { words (block_of block.now) ≤ most_words }
-    ensures { let commands = block_code slots.now (block_of block.now) in
-        OnOk result (code.new.items ≡ code.old.items ++ (commands ++ SmallInstr.Jal 0 (immediate (minus (4 * length commands))) ∷ [])) }
-{
-    let start = code.len();
-    emit_block(code, slots, block)?;
-    let size = (code.len() - start) as u32;
-    put(
-        code,
-        SmallInstr::Jal {
-            rd: ZERO,
-            imm: negated(4 * size),
-        },
-    )?;
+    emit_frame(code, init_frame)?;
+    emit_block(code, &init_frame.slots, &init.body)?;
+    emit_frame(code, again_frame)?;
+    emit_repeated(code, &again_frame.slots, &again.body)?;
     Ok(())
 }
 
 // The stack pointer becomes the lowest address of the frame.
-fn emit_frame(code: &mut Vec<SmallInstr>, slots: &Slots) -> Result<(), AllocError>
-    ensures { OnOk result (code.new.items ≡ code.old.items ++ frame_code slots.now) }
+fn emit_frame(code: &mut Vec<SmallInstr>, frame: &Frame) -> Result<(), AllocError>
+    requires { 4 * frame.now.words ≤ most_frame }
+    ensures { OnOk result (code.new.items ≡ code.old.items ++ frame_code frame.now.words) }
 {
     put(
         code,
@@ -85,58 +60,193 @@ fn emit_frame(code: &mut Vec<SmallInstr>, slots: &Slots) -> Result<(), AllocErro
         SmallInstr::Addi {
             rd: STACK,
             rs1: STACK,
-            imm: negated(slots.size()),
+            imm: negated(4 * frame.words),
         },
-    )?;
-    Ok(())
+    )
 }
 
+// The commands of a block, and a jump back to the first of them.
+fn emit_repeated(code: &mut Vec<SmallInstr>, slots: &Slots, block: &Block) -> Result<(), AllocError>
+    requires small { IsSmallBlock (block_of block.now) }
+    requires frame { 4 * (length slots.now + greatest_depth (block_of block.now) + 34) ≤ most_frame }
+    requires room { length code.old.items + words (block_of block.now) ≤ most_words }
+    ensures { let commands = command_code slots.now (block_of block.now) in
+        OnOk result (code.new.items ≡ code.old.items ++ (commands ++ SmallInstr.Jal 0 (immediate (minus (4 * length commands))) ∷ [])) }
+{
+    let first = code.len();
+    emit_block(code, slots, block)?;
+    jump_back(code, first)
+}
+
+// The commands of a block, one after another.
+#[cycle(emit)]
 fn emit_block(code: &mut Vec<SmallInstr>, slots: &Slots, block: &Block) -> Result<(), AllocError>
-    requires { IsSmallBlock (block_of block.now) }
-    ensures { OnOk result (code.new.items ≡ code.old.items ++ block_code slots.now (block_of block.now)) }
+    requires small { IsSmallBlock (block_of block.now) }
+    requires frame { 4 * (length slots.now + greatest_depth (block_of block.now) + 34) ≤ most_frame }
+    requires room { length code.old.items + words (block_of block.now) ≤ most_words }
+    ensures { OnOk result (code.new.items ≡ code.old.items ++ command_code slots.now (block_of block.now)) }
 {
     for c in block.commands.as_slice() {
-        emit_form(code, slots, form_of(c))?;
+        emit_command(code, slots, c)?;
     }
     Ok(())
 }
 
-fn emit_form(code: &mut Vec<SmallInstr>, slots: &Slots, form: Form) -> Result<(), AllocError>
-    ensures { OnOk result (code.new.items ≡ code.old.items ++ command_code slots.now (form_command form.entry)) }
+// One command. `skip` and `unset` have no instructions: a program that reads an unset variable is undefined.
+#[cycle(emit)]
+fn emit_command(code: &mut Vec<SmallInstr>, slots: &Slots, c: &Cmd) -> Result<(), AllocError>
+    requires small { IsSmallCommand (command_of c.now) }
+    requires frame { 4 * (length slots.now + greatest_depth (command_of c.now) + 34) ≤ most_frame }
+    requires room { length code.old.items + words (command_of c.now) ≤ most_words }
+    ensures { OnOk result (code.new.items ≡ code.old.items ++ command_code slots.now (command_of c.now)) }
 {
-    match form {
-        Form::Set { target, value } => {
-            emit_operand(code, slots, FIRST, value)?;
+    match c {
+        Cmd::Skip | Cmd::Unset { .. } => Ok(()),
+        Cmd::Set { target, value } => {
+            emit_term(code, slots, 0, value)?;
             emit_assignment(code, slots, target)
         }
-        Form::MmioRead { target, address } => {
-            emit_operand(code, slots, FIRST, address)?;
-            put(
-                code,
-                SmallInstr::Lw {
-                    rd: FIRST,
-                    rs1: FIRST,
-                    imm: 0,
-                },
-            )?;
-            emit_assignment(code, slots, target)
-        }
-        Form::MmioWrite { address, value } => {
-            emit_operand(code, slots, FIRST, address)?;
-            emit_operand(code, slots, SECOND, value)?;
-            put(
-                code,
-                SmallInstr::Sw {
-                    rs1: FIRST,
-                    rs2: SECOND,
-                    imm: 0,
-                },
-            )
-        }
+        Cmd::If { condition, yes, no } => emit_choice(code, slots, yes, no, condition),
+        Cmd::While { condition, body } => emit_loop(code, slots, body, condition),
+        Cmd::Interact {
+            targets,
+            action,
+            arguments,
+        } => emit_access(
+            code,
+            slots,
+            targets.as_slice(),
+            *action,
+            arguments.as_slice(),
+        ),
+        _ => unreachable!(),
     }
 }
 
-// The variable becomes the first operand.
+// One block or the other, by the condition: both branches are set once it is known how far they go.
+#[cycle(emit)]
+fn emit_choice(
+    code: &mut Vec<SmallInstr>,
+    slots: &Slots,
+    yes: &Block,
+    no: &Block,
+    condition: &Expr,
+) -> Result<(), AllocError>
+    requires condition { IsSmallTerm (term_of condition.now) }
+    requires yes { IsSmallBlock (block_of yes.now) }
+    requires no { IsSmallBlock (block_of no.now) }
+    requires condition_frame { 4 * (length slots.now + depth (term_of condition.now) + 34) ≤ most_frame }
+    requires yes_frame { 4 * (length slots.now + greatest_depth (block_of yes.now) + 34) ≤ most_frame }
+    requires no_frame { 4 * (length slots.now + greatest_depth (block_of no.now) + 34) ≤ most_frame }
+    requires room { length code.old.items + 8 + term_words (term_of condition.now) + words (block_of yes.now) + words (block_of no.now) ≤ most_words }
+    ensures { OnOk result (code.new.items ≡ code.old.items
+        ++ choice_code (term_code slots.now 0 (term_of condition.now)) (command_code slots.now (block_of yes.now)) (command_code slots.now (block_of no.now))) }
+{
+    emit_term(code, slots, 0, condition)?;
+    let branch = reserve(code)?;
+    emit_block(code, slots, yes)?;
+    let jump = reserve(code)?;
+    set_branch(code, branch);
+    emit_block(code, slots, no)?;
+    set_jump(code, jump);
+    Ok(())
+}
+
+// A block as long as the condition isn't 0, with a jump back to the condition.
+#[cycle(emit)]
+fn emit_loop(
+    code: &mut Vec<SmallInstr>,
+    slots: &Slots,
+    body: &Block,
+    condition: &Expr,
+) -> Result<(), AllocError>
+    requires condition { IsSmallTerm (term_of condition.now) }
+    requires body { IsSmallBlock (block_of body.now) }
+    requires condition_frame { 4 * (length slots.now + depth (term_of condition.now) + 34) ≤ most_frame }
+    requires body_frame { 4 * (length slots.now + greatest_depth (block_of body.now) + 34) ≤ most_frame }
+    requires room { length code.old.items + 8 + term_words (term_of condition.now) + words (block_of body.now) ≤ most_words }
+    ensures { OnOk result (code.new.items ≡ code.old.items
+        ++ loop_code (term_code slots.now 0 (term_of condition.now)) (command_code slots.now (block_of body.now))) }
+{
+    let start = code.len();
+    emit_term(code, slots, 0, condition)?;
+    let branch = reserve(code)?;
+    emit_block(code, slots, body)?;
+    jump_back(code, start)?;
+    set_branch(code, branch);
+    Ok(())
+}
+
+// An access of a device.
+fn emit_access(
+    code: &mut Vec<SmallInstr>,
+    slots: &Slots,
+    targets: &[Name],
+    action: Action,
+    arguments: &[Expr],
+) -> Result<(), AllocError>
+    requires small { IsSmallCommand (Interacts targets.now action (map term_of arguments.now)) }
+    requires frame { 4 * (length slots.now + greatest_depth (Interacts targets.now action (map term_of arguments.now)) + 34) ≤ most_frame }
+    ensures { OnOk result (code.new.items ≡ code.old.items ++ command_code slots.now (Interacts targets.now action (map term_of arguments.now))) }
+{
+    match (action, targets, arguments) {
+        (Action::Read, [target], [address]) => emit_read(code, slots, target, address),
+        (Action::Write, [], [address, value]) => emit_write(code, slots, address, value),
+        _ => unreachable!(),
+    }
+}
+
+// The target becomes what the device replies at the address.
+fn emit_read(
+    code: &mut Vec<SmallInstr>,
+    slots: &Slots,
+    target: &Name,
+    address: &Expr,
+) -> Result<(), AllocError>
+    requires small { IsSmallTerm (term_of address.now) }
+    requires frame { 4 * (length slots.now + depth (term_of address.now) + 34) ≤ most_frame }
+    ensures { OnOk result (code.new.items ≡ code.old.items ++ command_code slots.now (Interacts (target.now ∷ []) Action.Read (term_of address.now ∷ []))) }
+{
+    emit_term(code, slots, 0, address)?;
+    put(
+        code,
+        SmallInstr::Lw {
+            rd: VALUE,
+            rs1: VALUE,
+            imm: 0,
+        },
+    )?;
+    emit_assignment(code, slots, target)
+}
+
+// The device takes the value at the address, which waits in temporary 0 meanwhile.
+fn emit_write(
+    code: &mut Vec<SmallInstr>,
+    slots: &Slots,
+    address: &Expr,
+    value: &Expr,
+) -> Result<(), AllocError>
+    requires address { IsSmallTerm (term_of address.now) }
+    requires value { IsSmallTerm (term_of value.now) }
+    requires address_frame { 4 * (length slots.now + depth (term_of address.now) + 34) ≤ most_frame }
+    requires value_frame { 4 * (length slots.now + depth (term_of value.now) + 34) ≤ most_frame }
+    ensures { OnOk result (code.new.items ≡ code.old.items ++ command_code slots.now (Interacts [] Action.Write (term_of address.now ∷ term_of value.now ∷ []))) }
+{
+    emit_term(code, slots, 0, address)?;
+    put_away(code, slots, 0)?;
+    emit_term(code, slots, 1, value)?;
+    take_back(code, slots, 0)?;
+    put(
+        code,
+        SmallInstr::Sw {
+            rs1: EARLIER,
+            rs2: VALUE,
+            imm: 0,
+        },
+    )
+}
+
+// The variable becomes register `VALUE`.
 fn emit_assignment(
     code: &mut Vec<SmallInstr>,
     slots: &Slots,
@@ -148,60 +258,61 @@ fn emit_assignment(
         code,
         SmallInstr::Sw {
             rs1: STACK,
-            rs2: FIRST,
+            rs2: VALUE,
             imm: slots.offset_of(target),
         },
     )
 }
 
-// The register becomes the operand.
-fn emit_operand(
-    code: &mut Vec<SmallInstr>,
-    slots: &Slots,
-    rd: u8,
-    operand: Operand,
-) -> Result<(), AllocError>
-    ensures { OnOk result (code.new.items ≡ code.old.items ++ term_code slots.now rd (operand_term operand.entry)) }
+// A place for an instruction that isn't known yet.
+fn reserve(code: &mut Vec<SmallInstr>) -> Result<usize, AllocError>
+    ensures place { IfOk result (λ at. at ≡ length code.old.items) }
+    ensures code { OnOk result (code.new.items ≡ code.old.items ++ SmallInstr.Jal 0 (immediate 0) ∷ []) }
 {
-    match operand {
-        Operand::Number(n) => emit_word(code, rd, n),
-        Operand::Variable(x) => put(
-            code,
-            SmallInstr::Lw {
-                rd,
-                rs1: STACK,
-                imm: slots.offset_of(x),
-            },
-        ),
-    }
+    let at = code.len();
+    put(code, SmallInstr::Jal { rd: ZERO, imm: 0 })?;
+    Ok(at)
 }
 
-// The register becomes the word, which is split so that the lower part is from -2,048 to 2,047.
-fn emit_word(code: &mut Vec<SmallInstr>, rd: u8, n: u32) -> Result<(), AllocError>
-    ensures { OnOk result (code.new.items ≡ code.old.items ++ word_code rd n) }
+// The instruction at this place becomes a branch to the end of the code, taken where register `VALUE` is 0.
+fn set_branch(code: &mut Vec<SmallInstr>, at: usize)
+    requires within { at < length code.old.items }
+    requires small { length code.old.items ≤ most_words }
+    ensures { code.new.items ≡ slice_set code.old.items at (SmallInstr.Beq 5 0 (immediate (4 * (length code.old.items - at)))) }
 {
-    let upper = n.wrapping_add(2048) / 4096 * 4096;
-    let lower = n.wrapping_sub(upper);
-    put(code, SmallInstr::Lui { rd, imm: upper })?;
-    put(
-        code,
-        SmallInstr::Addi {
-            rd,
-            rs1: rd,
-            imm: lower.cast_signed(),
-        },
-    )
+    let imm = bytes_past(code, at).cast_signed();
+    code[at] = SmallInstr::Beq {
+        rs1: VALUE,
+        rs2: ZERO,
+        imm,
+    };
 }
 
-fn negated(n: u32) -> i32
-    ensures { result ≡ immediate (minus n) }
+// The instruction at this place becomes a jump to the end of the code.
+fn set_jump(code: &mut Vec<SmallInstr>, at: usize)
+    requires within { at < length code.old.items }
+    requires small { length code.old.items ≤ most_words }
+    ensures { code.new.items ≡ slice_set code.old.items at (SmallInstr.Jal 0 (immediate (4 * (length code.old.items - at)))) }
 {
-    0u32.wrapping_sub(n).cast_signed()
+    let imm = bytes_past(code, at).cast_signed();
+    code[at] = SmallInstr::Jal { rd: ZERO, imm };
 }
 
-fn put(code: &mut Vec<SmallInstr>, instr: SmallInstr) -> Result<(), AllocError>
-    ensures { OnOk result (code.new.items ≡ code.old.items ++ instr ∷ []) }
+// A jump back to the instruction at this place.
+fn jump_back(code: &mut Vec<SmallInstr>, to: usize) -> Result<(), AllocError>
+    requires within { to ≤ length code.old.items }
+    requires small { length code.old.items ≤ most_words }
+    ensures { OnOk result (code.new.items ≡ code.old.items ++ SmallInstr.Jal 0 (immediate (minus (4 * (length code.old.items - to)))) ∷ []) }
 {
-    code.push(instr)?;
-    Ok(())
+    let imm = negated(bytes_past(code, to));
+    put(code, SmallInstr::Jal { rd: ZERO, imm })
+}
+
+// The bytes from the instruction at this place to the end of the code.
+fn bytes_past(code: &Vec<SmallInstr>, at: usize) -> u32
+    requires within { at ≤ length code.now.items }
+    requires small { length code.now.items ≤ most_words }
+    ensures { result ≡ 4 * (length code.now.items - at) }
+{
+    4 * (code.len() - at) as u32
 }

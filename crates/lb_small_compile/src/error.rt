@@ -4,7 +4,7 @@ use std::alloc::AllocError;
 /// Why a program isn't compiled.
 #[derive(Clone, Copy, Debug, PartialEq, Eq)]
 pub enum CompileError {
-    /// The program asks for more words of code or bytes of a frame than there may be.
+    /// The program asks for more words of code, bytes passed by a branch or bytes of a frame than there may be.
     OverLimit,
     /// No memory is left.
     Memory,

@@ -4,10 +4,10 @@
 mod compiler;
 mod emit;
 mod error;
-mod form;
+mod frame;
 mod needs;
-mod read;
 mod slots;
+mod terms;
 
 pub use compiler::{Compiled, compile};
 pub use error::CompileError;

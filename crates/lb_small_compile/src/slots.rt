@@ -1,29 +1,25 @@
 // The slots of a function's variables.
-ghost use Rattle.std.specs.Prelude.{◌≡◌, ◌<◌, ◌≤◌, ◌*◌, ◌+◌, [], ◌∷◌, ◌++◌, length, IfOk, OnOk, OnErr, IsErrOf};
+ghost use Rattle.std.specs.Prelude.{◌≡◌, ◌<◌, ◌≤◌, ◌*◌, ◌+◌, [], ◌∷◌, ◌++◌, map, length, IfOk, OnOk, OnErr, IsErrOf};
 ghost use Rattle.lb_syntax.specs.Names.{is_among};
-ghost use Rattle.lb_syntax.specs.Tree.{block_of, procedure_of};
-ghost use Rattle.lb_syntax.specs.Needs.{command_names, term_names, variables, frame_need, most_frame};
-ghost use Rattle.lb_syntax.specs.Small.{IsSmallBlock};
-ghost use Rattle.lb_small_compile.specs.Forms.{form_command, operand_term};
-ghost use Rattle.lb_small_compile.specs.Slots.{with_name, with_names, slot_names, slot};
-ghost use Rattle.lb_small_compile.specs.Code.{slot_offset};
+ghost use Rattle.lb_syntax.specs.Tree.{Interacts, term_of, command_of, block_of};
+ghost use Rattle.lb_syntax.specs.Needs.{term_names, command_names, most_frame};
+ghost use Rattle.lb_syntax.specs.Small.{IsSmallTerm, IsSmallCommand, IsSmallBlock};
+ghost use Rattle.lb_small_code.specs.Slots.{with_name, with_names, slot};
+ghost use Rattle.lb_small_code.specs.Code.{slot_offset, temporary_offset};
 
 use crate::error::CompileError;
-use crate::form::{Form, Operand};
-use crate::needs::depth_of;
-use crate::read::form_of;
-use lb_syntax::{Block, Function, Name};
+use lb_syntax::{Action, Block, Cmd, Expr, Name};
 use std::alloc::{AllocError, Global};
 use std::marker::Model;
 
-// The most bytes that a frame may ask for.
-const MOST_FRAME: usize = 2_032;
+/// The most bytes that a frame may ask for.
+pub const MOST_FRAME: u32 = 2_032;
 
-// Words of a frame beside those of variables and operands.
-const FRAME_WORDS: usize = 34;
+/// Words that a frame asks for beside those of variables and operands.
+pub const FRAME_WORDS: u32 = 34;
 
 // A frame of more variables is over its limit.
-const MOST_SLOTS: usize = MOST_FRAME / 4 - FRAME_WORDS;
+const MOST_SLOTS: usize = (MOST_FRAME / 4 - FRAME_WORDS) as usize;
 
 /// The variables of a function, each once and in order of first use: the place of a variable is its slot.
 #[derive(Drop)]
@@ -43,25 +39,8 @@ impl Model for Slots {
 }
 
 impl Slots {
-    /// The slots of a function without parameters and results.
-    pub fn of(alloc: Global, f: &Function) -> Result<Slots, CompileError>
-        requires no_params { f.now.params ≡ [] }
-        requires no_results { f.now.results ≡ [] }
-        requires small { IsSmallBlock (block_of f.now.body) }
-        ensures names { IfOk result (λ slots. slots ≡ slot_names (procedure_of f.now)) }
-        ensures variables { IfOk result (λ slots. length slots ≡ variables (procedure_of f.now)) }
-        ensures within { OnOk result (frame_need (procedure_of f.now) ≤ most_frame) }
-        ensures over { IsErrOf result CompileError.OverLimit → most_frame < frame_need (procedure_of f.now) }
-    {
-        let slots = Slots::of_block(alloc, &f.body)?;
-        let words = slots.len() + depth_of(&f.body) + FRAME_WORDS;
-        if 4 * words > MOST_FRAME {
-            return Err(CompileError::OverLimit);
-        }
-        Ok(slots)
-    }
-
-    fn of_block(alloc: Global, block: &Block) -> Result<Slots, CompileError>
+    /// The slots of the variables that a block names. `OverLimit` comes only where they are too many for a frame.
+    pub fn of(alloc: Global, block: &Block) -> Result<Slots, CompileError>
         requires { IsSmallBlock (block_of block.now) }
         ensures names { IfOk result (λ slots. slots ≡ with_names [] (command_names (block_of block.now))) }
         ensures over { IsErrOf result CompileError.OverLimit → MOST_SLOTS < length (with_names [] (command_names (block_of block.now))) }
@@ -69,41 +48,114 @@ impl Slots {
         let mut slots = Slots {
             names: Vec::new(alloc),
         };
-        for c in block.commands.as_slice() {
-            slots.add_form(alloc, form_of(c))?;
-        }
+        slots.add_block(alloc, block)?;
         Ok(slots)
     }
 
-    // The variables that a command names.
-    fn add_form(&mut self, alloc: Global, form: Form) -> Result<(), CompileError>
-        ensures names { OnOk result (self.new ≡ with_names self.old (command_names (form_command form.entry))) }
+    // The variables that a block names.
+    #[cycle(add)]
+    fn add_block(&mut self, alloc: Global, block: &Block) -> Result<(), CompileError>
+        requires { IsSmallBlock (block_of block.now) }
+        ensures names { OnOk result (self.new ≡ with_names self.old (command_names (block_of block.now))) }
         ensures over { IsErrOf result CompileError.OverLimit
-            → MOST_SLOTS < length (with_names self.old (command_names (form_command form.entry))) }
+            → MOST_SLOTS < length (with_names self.old (command_names (block_of block.now))) }
     {
-        match form {
-            Form::Set { target, value } => {
+        for c in block.commands.as_slice() {
+            self.add_command(alloc, c)?;
+        }
+        Ok(())
+    }
+
+    // The variables that a command names.
+    #[cycle(add)]
+    fn add_command(&mut self, alloc: Global, c: &Cmd) -> Result<(), CompileError>
+        requires { IsSmallCommand (command_of c.now) }
+        ensures names { OnOk result (self.new ≡ with_names self.old (command_names (command_of c.now))) }
+        ensures over { IsErrOf result CompileError.OverLimit
+            → MOST_SLOTS < length (with_names self.old (command_names (command_of c.now))) }
+    {
+        match c {
+            Cmd::Skip => Ok(()),
+            Cmd::Set { target, value } => {
                 self.add(alloc, target)?;
-                self.add_operand(alloc, value)
+                self.add_term(alloc, value)
             }
-            Form::MmioRead { target, address } => {
-                self.add(alloc, target)?;
-                self.add_operand(alloc, address)
+            Cmd::Unset { target } => self.add(alloc, target),
+            Cmd::If { condition, yes, no } => {
+                self.add_term(alloc, condition)?;
+                self.add_block(alloc, yes)?;
+                self.add_block(alloc, no)
             }
-            Form::MmioWrite { address, value } => {
-                self.add_operand(alloc, address)?;
-                self.add_operand(alloc, value)
+            Cmd::While { condition, body } => {
+                self.add_term(alloc, condition)?;
+                self.add_block(alloc, body)
             }
+            Cmd::Interact {
+                targets,
+                action,
+                arguments,
+            } => self.add_access(alloc, targets.as_slice(), *action, arguments.as_slice()),
+            _ => unreachable!(),
         }
     }
 
-    fn add_operand(&mut self, alloc: Global, operand: Operand) -> Result<(), CompileError>
-        ensures names { OnOk result (self.new ≡ with_names self.old (term_names (operand_term operand.entry))) }
-        ensures over { IsErrOf result CompileError.OverLimit → MOST_SLOTS < length (with_names self.old (term_names (operand_term operand.entry))) }
+    // The variables that an access names.
+    fn add_access(
+        &mut self,
+        alloc: Global,
+        targets: &[Name],
+        action: Action,
+        arguments: &[Expr],
+    ) -> Result<(), CompileError>
+        requires { IsSmallCommand (Interacts targets.now action (map term_of arguments.now)) }
+        ensures names { OnOk result (self.new ≡ with_names self.old (command_names (Interacts targets.now action (map term_of arguments.now)))) }
+        ensures over { IsErrOf result CompileError.OverLimit
+            → MOST_SLOTS < length (with_names self.old (command_names (Interacts targets.now action (map term_of arguments.now)))) }
     {
-        match operand {
-            Operand::Number(_) => Ok(()),
-            Operand::Variable(x) => self.add(alloc, x),
+        match (action, targets, arguments) {
+            (Action::Read, [target], [address]) => self.add_read(alloc, target, address),
+            (Action::Write, [], [address, value]) => self.add_write(alloc, address, value),
+            _ => unreachable!(),
+        }
+    }
+
+    // The variables that a read names.
+    fn add_read(&mut self, alloc: Global, target: &Name, address: &Expr) -> Result<(), CompileError>
+        requires { IsSmallTerm (term_of address.now) }
+        ensures names { OnOk result (self.new ≡ with_names self.old (command_names (Interacts (target.now ∷ []) Action.Read (term_of address.now ∷ [])))) }
+        ensures over { IsErrOf result CompileError.OverLimit
+            → MOST_SLOTS < length (with_names self.old (command_names (Interacts (target.now ∷ []) Action.Read (term_of address.now ∷ [])))) }
+    {
+        self.add(alloc, target)?;
+        self.add_term(alloc, address)
+    }
+
+    // The variables that a write names.
+    fn add_write(&mut self, alloc: Global, address: &Expr, value: &Expr) -> Result<(), CompileError>
+        requires address { IsSmallTerm (term_of address.now) }
+        requires value { IsSmallTerm (term_of value.now) }
+        ensures names { OnOk result (self.new ≡ with_names self.old (command_names (Interacts [] Action.Write (term_of address.now ∷ term_of value.now ∷ [])))) }
+        ensures over { IsErrOf result CompileError.OverLimit
+            → MOST_SLOTS < length (with_names self.old (command_names (Interacts [] Action.Write (term_of address.now ∷ term_of value.now ∷ [])))) }
+    {
+        self.add_term(alloc, address)?;
+        self.add_term(alloc, value)
+    }
+
+    // The variables that an expression names.
+    fn add_term(&mut self, alloc: Global, e: &Expr) -> Result<(), CompileError>
+        requires { IsSmallTerm (term_of e.now) }
+        ensures names { OnOk result (self.new ≡ with_names self.old (term_names (term_of e.now))) }
+        ensures over { IsErrOf result CompileError.OverLimit → MOST_SLOTS < length (with_names self.old (term_names (term_of e.now))) }
+    {
+        match e {
+            Expr::Literal(_) => Ok(()),
+            Expr::Var(x) => self.add(alloc, x),
+            Expr::Binary { left, right, .. } => {
+                self.add_term(alloc, left.get())?;
+                self.add_term(alloc, right.get())
+            }
+            Expr::Load { .. } => unreachable!(),
         }
     }
 
@@ -127,18 +179,12 @@ impl Slots {
         self.names.iter().any(|known| known == name)
     }
 
-    fn len(&self) -> usize
+    /// How many slots there are.
+    pub fn len(&self) -> u32
         ensures value { result ≡ length self.now }
         ensures within { result ≤ MOST_SLOTS }
     {
-        self.names.len()
-    }
-
-    /// The bytes of all slots.
-    pub fn size(&self) -> u32
-        ensures { result ≡ 4 * length self.now }
-    {
-        4 * self.len() as u32
+        self.names.len() as u32
     }
 
     /// The bytes from the first slot to the one of this variable.
@@ -146,6 +192,14 @@ impl Slots {
         ensures { result ≡ slot_offset self.now name.now }
     {
         (4 * place_of(self.names.as_slice(), name) as u32).cast_signed()
+    }
+
+    /// The bytes from the first slot to temporary number k, all in a frame.
+    pub fn temporary(&self, k: u32) -> i32
+        requires { 4 * (length self.now + k) < most_frame }
+        ensures { result ≡ temporary_offset self.now k }
+    {
+        (4 * (self.len() + k)).cast_signed()
     }
 }
 

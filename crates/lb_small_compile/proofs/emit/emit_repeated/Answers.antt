@@ -1,13 +1,11 @@
 use Rattle.std.proofs.Common.{arith}
-use Rattle.lb_small_compile.proofs.CodeLemmas.{added, length-block_code}
+use Rattle.lb_syntax.specs.Tree.{block_of}
+use Rattle.lb_small_code.specs.Code.{command_code}
+use Rattle.lb_small_compile.proofs.CodeLengths.{length-block_code}
+use Rattle.lb_small_compile.proofs.PatchLemmas.{longer}
 use Rattle.lb_small_compile.proofs.emit.emit_repeated.Goals as goal
 
-pub overflow_cast-size : goal.overflow_cast-size
-overflow_cast-size c =
-    let size = added c.args.code.now.items _ c.emit_block.new.code.items c.in_ok-emit_block.ensures in
-    omega (arith, size, length-block_code c.args.slots.now _ c.requires.small, c.requires.room, c.len.ensures, c.len-start.ensures)
-
-pub overflow_mul-size : goal.overflow_mul-size
-overflow_mul-size c =
-    let size = added c.args.code.now.items _ c.emit_block.new.code.items c.in_ok-emit_block.ensures in
-    omega (arith, size, length-block_code c.args.slots.now _ c.requires.small, c.requires.room, c.len.ensures, c.len-start.ensures)
+pub jump_back-requires-clause-small : goal.jump_back-requires-clause-small
+jump_back-requires-clause-small c =
+    let more = longer c.args.code.now.items (command_code c.args.slots.now (block_of c.args.block.now)) c.emit_block.new.code.items c.in_ok-emit_block.ensures in
+    omega (arith, more, length-block_code c.args.slots.now (block_of c.args.block.now) c.requires.small, c.requires.room)

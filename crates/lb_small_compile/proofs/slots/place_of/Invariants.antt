@@ -1,5 +1,5 @@
 use Rattle.std.proofs.Common.{◌≡◌, ◌+◌, drop}
-use Rattle.lb_small_compile.specs.Slots.{slot}
+use Rattle.lb_small_code.specs.Slots.{slot}
 use Rattle.lb_small_compile.proofs.slots.place_of.Given as goal
 
 abbrev pub invariant-loop-at : goal.invariant-loop-at

@@ -1,4 +1,0 @@
-pub mod Forms
-pub mod Slots
-pub mod Code
-pub mod Correct
