@@ -1,123 +1,117 @@
--- Blocks: what is read is what is written so, what is written is read again, and how a loop over the lines reads it.
-use Rattle.std.proofs.Common.{◌≡◌, ℕ, zero, suc, ◌+◌, ◌-◌, ◌<◌, ◌≤◌, List, [], ◌∷◌, ◌++◌, length, Option, Some, None, refl, sym, ap, subst, ◌∙◌, append_assoc, arith}
+-- Lines and blocks: what is read is what is written so, and is no longer than the text.
+use Rattle.std.proofs.Common.{◌≡◌, ℕ, zero, suc, ◌+◌, ◌<◌, ◌≤◌, [], ◌∷◌, ◌++◌, length, Option, Some, None, refl, sym, ap, subst, ◌∙◌, append_assoc, arith}
 use Rattle.std.specs.Prelude.{codes}
 use Rattle.std.proofs.lemmas.List.{length-append}
 use Rattle.lb_syntax.specs.Names.{Text}
-use Rattle.lb_syntax.specs.Tree.{Command, Ends, Then, chain}
-use Rattle.lb_syntax.specs.Printing.{command_text}
-use Rattle.lb_syntax.specs.Small.{IsSmallBlock}
-use Rattle.lb_small_text.specs.declared.stop.Stop.{Stop}
-use Rattle.lb_small_text.specs.declared.stop.Stop.TheVariants.{NotCanonical, Memory}
-use Rattle.lb_small_text.specs.Reading.{◌>>=◌, Stops, or_else, after, command_at, block_at}
-use Rattle.lb_small_text.proofs.NumberLemmas.{some_is}
-use Rattle.lb_small_text.proofs.WordLemmas.{bind_some, after_parts}
-use Rattle.lb_small_text.proofs.CommandLemmas.{command_front, command_again, command_text-some, command_is_no_end}
+use Rattle.lb_syntax.specs.declared.tree.Action.TheVariants.{Read, Write}
+use Rattle.lb_syntax.specs.Tree.{Command, Skips, Sets, Unsets, Chooses, Repeats, Interacts, Ends, Then}
+use Rattle.lb_syntax.specs.Printing.{term_text, indent, line, else_text, call_text, command_text}
+use Rattle.lb_syntax.specs.Small.{IsSmallCommand, IsSmallBlock}
+use Rattle.lb_small_text.specs.Reading.{◌>>=◌, less, after, command_at, line_at, from_line, lines_at, block_at}
+use Rattle.lb_small_text.proofs.Nesting.{nest_in}
+use Rattle.lb_small_text.proofs.NumberLemmas.{taken}
+use Rattle.lb_small_text.proofs.WordLemmas.{bind_some, which, after_parts}
+use Rattle.lb_small_text.proofs.CommandLemmas.{block_text, CommandFront, BlockFront, command_front_with}
 
--- the text is this block's, the line that closes it, and what follows
-abbrev pub BlockFront : Text → Command × Text → Type 0
-BlockFront text x = (text ≡ command_text 1 x.0 ++ (codes "}\n" ++ x.1)) × IsSmallBlock x.0
+-- the blanks before a command may be turned with those of its block
+pub indent_turned : (d : ℕ) (text : Text) → indent (suc d) ++ text ≡ indent d ++ (codes "  " ++ text)
+indent_turned zero text = refl
+indent_turned (suc d) text = ap (λ (t : Text). codes "  " ++ t) (indent_turned d text)
 
--- the step at a line, where what is read of the lines behind it is a block
-step_front : (n : ℕ) (text : Text) (o : Option Text) (x : Command × Text) → ((rest : Text) (y : Command × Text) → block_at n rest ≡ Some y → BlockFront rest y)
-    → after (codes "}\n") text ≡ o → or_else o (λ rest. Some (Ends, rest)) (command_at text >>= λ c. block_at n c.1 >>= λ b. Some (Then c.0 b.0, b.1)) ≡ Some x → BlockFront text x
-step_front n text (Some rest) x again is read = subst (λ (y : Command × Text). BlockFront text y) (some_is (Ends, rest) x read) (after_parts (codes "}\n") text rest is, tt)
-step_front n text None x again is read =
-    let c = bind_some (command_at text) (λ c. block_at n c.1 >>= λ b. Some (Then c.0 b.0, b.1)) x read in
-    let b = bind_some (block_at n c.0.1) (λ b. Some (Then c.0.0 b.0, b.1)) x c.2 in
-    let first = command_front text c.0 c.1 in
-    let others = again c.0.1 b.0 b.1 in
-    let parts : text ≡ command_text 1 (Then c.0.0 b.0.0) ++ (codes "}\n" ++ b.0.1) =
-    first.0 ∙ ap (λ (r : Text). command_text 1 c.0.0 ++ r) others.0 ∙ sym (append_assoc (command_text 1 c.0.0) (command_text 1 b.0.0) (codes "}\n" ++ b.0.1)) in
-    subst (λ (y : Command × Text). BlockFront text y) (some_is (Then c.0.0 b.0.0, b.0.1) x b.2) (parts, (first.1, others.1))
+-- ---- a command has bytes besides its blanks
 
-pub block_front : (n : ℕ) (text : Text) (x : Command × Text) → block_at n text ≡ Some x → BlockFront text x
+line_wide : (d : ℕ) (text rest : Text) → length (indent d) < length (line d text ++ rest)
+line_wide d text rest = omega (arith, length-append (line d text) rest, length-append (indent d) (text ++ 10 ∷ []), length-append text (10 ∷ []))
+
+line_alone : (d : ℕ) (text : Text) → length (indent d) < length (line d text)
+line_alone d text = omega (arith, length-append (indent d) (text ++ 10 ∷ []), length-append text (10 ∷ []))
+
+pub command_wide : (d : ℕ) (c : Command) → IsSmallCommand c → length (indent d) < length (command_text d c)
+command_wide d Skips small = line_alone d (codes "skip;")
+command_wide d (Sets x e) small = line_alone d (x ++ (codes " = " ++ (term_text e ++ codes ";")))
+command_wide d (Unsets x) small = line_alone d (codes "unset " ++ (x ++ codes ";"))
+command_wide d (Chooses e b c) small = line_wide d (codes "if " ++ (term_text e ++ codes " {")) (command_text (suc d) b ++ (else_text d c (command_text (suc d) c) ++ line d (codes "}")))
+command_wide d (Repeats e b) small = line_wide d (codes "while " ++ (term_text e ++ codes " {")) (command_text (suc d) b ++ line d (codes "}"))
+command_wide d (Interacts (x ∷ []) Read (e ∷ [])) small = line_alone d (call_text (x ∷ []) (codes "MMIOREAD") (e ∷ []))
+command_wide d (Interacts [] Write (a ∷ e ∷ [])) small = line_alone d (call_text [] (codes "MMIOWRITE") (a ∷ e ∷ []))
+command_wide d _ small = absurd small
+
+-- ---- lines
+
+-- the text is this command's, or begins with the line that closes the block
+abbrev pub LineFront : ℕ → ℕ → Text → Option Command → Text → Type 0
+LineFront n d text None rest = text ≡ indent d ++ (codes "}" ++ rest)
+LineFront n d text (Some c) rest = (text ≡ command_text (suc d) c ++ rest) × IsSmallCommand c × (nest_in c ≤ n)
+
+-- commands of the lines
+module _ (n d : ℕ) (command : Text → Option (Command × Text)) (commands : (text : Text) (x : Command × Text) → command text ≡ Some x → CommandFront n (suc d) text x) where
+  pub line_front : (text : Text) (x : Option Command × Text) → line_at d command text ≡ Some x → LineFront n d text x.0 x.1
+  unfolding line_at
+  line_front text x read =
+      let l = bind_some (after (indent d) text) _ x read in
+      let parts = after_parts (indent d) text l.0 l.1 in
+      which (after (codes "}") l.0) (λ rest. Some (None, rest)) (after (codes "  ") l.0 >>= command >>= λ c. Some (Some c.0, c.1)) x l.2
+      (λ rest is e.
+      let whole : text ≡ indent d ++ (codes "}" ++ rest) = parts ∙ ap (λ (t : Text). indent d ++ t) (after_parts (codes "}") l.0 rest is) in
+      taken (λ (y : Option Command × Text). LineFront n d text y.0 y.1) (None, rest) x e whole)
+      (λ e.
+      let c = bind_some (after (codes "  ") l.0 >>= command) _ x e in
+      let b = bind_some (after (codes "  ") l.0) command c.0 c.1 in
+      let front = commands b.0 c.0 b.2 in
+      let whole : text ≡ command_text (suc d) c.0.0 ++ c.0.1 =
+      parts ∙ ap (λ (t : Text). indent d ++ t) (after_parts (codes "  ") l.0 b.0 b.1) ∙ sym (indent_turned d b.0) ∙ front.0 in
+      let found : LineFront n d text (Some c.0.0) c.0.1 = (whole, front.1, front.2) in
+      taken (λ (y : Option Command × Text). LineFront n d text y.0 y.1) (Some c.0.0, c.0.1) x c.2 found)
+
+  -- a block, where what is read of the lines behind its first is one
+  from_line_front : (text : Text) (o : Option Command) (rest : Text) (lines : Text → Option (Command × Text)) (x : Command × Text)
+      → ((y : Command × Text) → lines rest ≡ Some y → (rest ≡ block_text d y.0 y.1) × IsSmallBlock y.0 × (nest_in y.0 ≤ n))
+      → LineFront n d text o rest → from_line o rest lines ≡ Some x → (text ≡ block_text d x.0 x.1) × IsSmallBlock x.0 × (nest_in x.0 ≤ n)
+  from_line_front text None rest lines x again front read =
+      taken (λ (y : Command × Text). (text ≡ block_text d y.0 y.1) × IsSmallBlock y.0 × (nest_in y.0 ≤ n)) (Ends, rest) x read (front, tt, omega arith)
+  from_line_front text (Some c) rest lines x again front read =
+      let b = bind_some (lines rest) _ x read in
+      let others = again b.0 b.1 in
+      let whole : text ≡ block_text d (Then c b.0.0) b.0.1 =
+      front.0 ∙ ap (λ (t : Text). command_text (suc d) c ++ t) others.0 ∙ sym (append_assoc (command_text (suc d) c) (command_text (suc d) b.0.0) (indent d ++ (codes "}" ++ b.0.1))) in
+      taken (λ (y : Command × Text). (text ≡ block_text d y.0 y.1) × IsSmallBlock y.0 × (nest_in y.0 ≤ n)) (Then c b.0.0, b.0.1) x b.2
+      (whole, (front.1, others.1), omega (arith, front.2, others.2))
+
+  pub lines_front : (k : ℕ) (text : Text) (x : Command × Text) → lines_at d command k text ≡ Some x → (text ≡ block_text d x.0 x.1) × IsSmallBlock x.0 × (nest_in x.0 ≤ n)
+  unfolding lines_at
+  lines_front zero text x read = absurd cc
+  lines_front (suc k) text x read =
+      let l = bind_some (line_at d command text) _ x read in
+      from_line_front text l.0.0 l.0.1 (lines_at d command k) x (λ y e. lines_front k l.0.1 y e) (line_front text l.0 l.1) l.2
+
+-- ---- blocks
+
+pub block_is : (n d : ℕ) (text : Text) → block_at (suc n) d text ≡ lines_at d (command_at n (block_at n (suc d))) (length text) text
 unfolding block_at
-block_front zero text x read = absurd cc
-block_front (suc n) text x read = step_front n text (after (codes "}\n") text) x (λ rest y e. block_front n rest y e) refl read
+block_is n d text =
+    let e : d + 1 ≡ suc d = omega arith in
+    ap (λ (m : ℕ). lines_at d (command_at n (block_at n m)) (length text) text) e
 
-pub block_again : (b : Command) (n : ℕ) (rest : Text) → IsSmallBlock b → length (command_text 1 b) < n → block_at n (command_text 1 b ++ (codes "}\n" ++ rest)) ≡ Some (b, rest)
-unfolding block_at after
-block_again Ends zero rest small room = absurd (omega arith)
-block_again Ends (suc n) rest small room = refl
-block_again (Then c b) zero rest small room = absurd (omega arith)
-block_again (Then c b) (suc n) rest small room =
-    let tail : Text = command_text 1 b ++ (codes "}\n" ++ rest) in
-    let some = command_text-some c small.0 in
-    let less : length (command_text 1 b) < n = omega (arith, length-append (command_text 1 c) (command_text 1 b)) in
-    ap (block_at (suc n)) (append_assoc (command_text 1 c) (command_text 1 b) (codes "}\n" ++ rest))
-    ∙ rw (command_is_no_end c tail small.0, command_again c tail small.0, block_again b n rest small.1 less) refl
-block_again _ n rest small room = absurd small
-
--- ---- the loop: what was read before, and what is still read
-
-abbrev pub chained : List Command → Command → Command
-chained [] b = b
-chained (c ∷ cs) b = Then c (chained cs b)
-
-chained-Ends : (cs : List Command) → chained cs Ends ≡ chain cs
-chained-Ends [] = refl
-chained-Ends (c ∷ cs) = ap (λ (b : Command). Then c b) (chained-Ends cs)
-
-chained-push : (cs : List Command) (c b : Command) → chained (cs ++ c ∷ []) b ≡ chained cs (Then c b)
-chained-push [] c b = refl
-chained-push (d ∷ cs) c b = ap (λ (x : Command). Then d x) (chained-push cs c b)
-
-abbrev pub with_front : List Command → Option (Command × Text) → Option (Command × Text)
-with_front front read = read >>= λ x. Some (chained front x.0, x.1)
-
-with_front-nothing : (read : Option (Command × Text)) → with_front [] read ≡ read
-with_front-nothing (Some x) = refl
-with_front-nothing None = refl
-
-with_front-push : (front : List Command) (c : Command) (read : Option (Command × Text)) → with_front front (read >>= λ b. Some (Then c b.0, b.1)) ≡ with_front (front ++ c ∷ []) read
-with_front-push front c (Some x) = ap (λ (b : Command). Some (b, x.1)) (sym (chained-push front c x.0))
-with_front-push front c None = refl
-
--- the commands read so far and the reading of the rest are the reading of the whole text
-pub record SoFar (text : Text) (front : List Command) (rest : Text) : Type 0 where
-  pub room : length front + length rest ≤ length text
-  pub same : with_front front (block_at (length text - length front) rest) ≡ block_at (length text) text
-
-pub SoFar-start : (text : Text) → SoFar text [] text
-SoFar-start text =
-    let all : length text - 0 ≡ length text = omega arith in
-    record { room = omega arith; same = with_front-nothing (block_at (length text - 0) text) ∙ ap (λ (n : ℕ). block_at n text) all }
-
-pub SoFar-ends : (text : Text) (front : List Command) (rest left : Text) → SoFar text front rest → after (codes "}\n") rest ≡ Some left → block_at (length text) text ≡ Some (chain front, left)
+pub block_less : (n d : ℕ) (text : Text) → block_at n d text ≡ (less n >>= λ m. lines_at d (command_at m (block_at m (d + 1))) (length text) text)
 unfolding block_at
-SoFar-ends text front rest left so_far closes =
-    let some = ap length (after_parts (codes "}\n") rest left closes) in
-    let n : length text - length front ≡ suc (length text - length front - 1) = omega (arith, so_far.room, some) in
-    let one : with_front front (block_at (length text - length front) rest) ≡ Some (chain front, left) = rw (n, closes) (ap (λ (b : Command). Some (b, left)) (chained-Ends front)) in
-    sym so_far.same ∙ one
+block_less zero d text = refl
+block_less (suc n) d text = refl
 
-fails : (n : ℕ) (rest : Text) → after (codes "}\n") rest ≡ None → command_at rest ≡ None → block_at n rest ≡ None
+pub block_front : (n d : ℕ) (text : Text) (x : Command × Text) → block_at n d text ≡ Some x → BlockFront n d text x
 unfolding block_at
-fails zero rest goes_on none = refl
-fails (suc n) rest goes_on none = rw (goes_on, none) refl
+block_front zero d text x read = absurd cc
+block_front (suc n) d text x read =
+    let front = lines_front n d (command_at n (block_at n (suc d))) (λ t y e. command_front_with n (suc d) (block_at n (suc d)) (λ u z f. block_front n (suc d) u z f) t y e) (length text) text x (sym (block_is n d text) ∙ read) in
+    (front.0, front.1, omega (arith, front.2))
 
-pub SoFar-fails : (text : Text) (front : List Command) (rest : Text) → SoFar text front rest → after (codes "}\n") rest ≡ None → command_at rest ≡ None → block_at (length text) text ≡ None
-SoFar-fails text front rest so_far goes_on none =
-    let none' = fails (length text - length front) rest goes_on none in
-    let one : with_front front (block_at (length text - length front) rest) ≡ None = rw none' refl in
-    sym so_far.same ∙ one
+shorter : (n d : ℕ) (text : Text) (o : Option Command) (left : Text) → LineFront n d text o left → length left < length text
+shorter n d text None left front = omega (arith, ap length front, length-append (indent d) (codes "}" ++ left))
+shorter n d text (Some c) left front = omega (arith, ap length front.0, length-append (command_text (suc d) c) left, command_wide (suc d) c front.1)
 
-pub command_shortens : (rest left : Text) (c : Command) → command_at rest ≡ Some (c, left) → length left < length rest
-command_shortens rest left c read =
-    let front = command_front rest (c, left) read in
-    omega (arith, command_text-some c front.1, length-append (command_text 1 c) left, ap length front.0)
-
-pub SoFar-goes : (text : Text) (front : List Command) (rest left : Text) (c : Command) → SoFar text front rest → after (codes "}\n") rest ≡ None → command_at rest ≡ Some (c, left) → SoFar text (front ++ c ∷ []) left
-unfolding block_at
-SoFar-goes text front rest left c so_far goes_on read =
-    let shorter = command_shortens rest left c read in
-    let longer = length-append front (c ∷ []) in
-    let n : length text - length front ≡ suc (length text - length (front ++ c ∷ [])) = omega (arith, so_far.room) in
-    let one : with_front front (block_at (length text - length front) rest) ≡ with_front (front ++ c ∷ []) (block_at (length text - length (front ++ c ∷ [])) left) =
-    rw (n, goes_on, read) (with_front-push front c (block_at (length text - length (front ++ c ∷ [])) left)) in
-    record { room = omega (arith, so_far.room); same = sym one ∙ so_far.same }
-
--- where a command isn't read, nor is the block
-pub SoFar-stops : (stop : Stop) (text : Text) (front : List Command) (rest : Text) → SoFar text front rest → after (codes "}\n") rest ≡ None → Stops stop (command_at rest) → Stops stop (block_at (length text) text)
-SoFar-stops NotCanonical text front rest so_far goes_on given = SoFar-fails text front rest so_far goes_on given
-SoFar-stops Memory text front rest so_far goes_on given = tt
+-- a line leaves less than there was
+pub line_shortens : (n d : ℕ) (text : Text) (o : Option Command) (left : Text) → line_at d (command_at n (block_at n (d + 1))) text ≡ Some (o, left) → length left < length text
+line_shortens n d text o left read =
+    let e : d + 1 ≡ suc d = omega arith in
+    let read' = subst (λ (m : ℕ). line_at d (command_at n (block_at n m)) text ≡ Some (o, left)) e read in
+    let front = line_front n d (command_at n (block_at n (suc d))) (λ t y f. command_front_with n (suc d) (block_at n (suc d)) (λ u z g. block_front n (suc d) u z g) t y f) text (o, left) read' in
+    shorter n d text o left front

@@ -1,6 +1,10 @@
 pub mod WordLemmas
 pub mod NumberLemmas
+pub mod LoopLemmas
+pub mod Nesting
 pub mod TermLemmas
 pub mod CommandLemmas
 pub mod BlockLemmas
+pub mod AgainLemmas
+pub mod BracketLemmas
 pub mod ProgramLemmas

@@ -22,6 +22,10 @@ own = numerals_by_value _ tells_all_ascii_digits
 pub some_is : {A : Type 0} (x y : A) → Some x ≡ Some y → x ≡ y
 some_is x y e = cc
 
+-- what holds of the one holds of the other
+pub taken : {A : Type 0} (P : A → Type 0) (x y : A) → Some x ≡ Some y → P x → P y
+taken P x y e p = subst P (some_is x y e) p
+
 pub number_of-is : (word : Text) (n : ℕ) → number_of word ≡ Some n → (decimal n ≡ word) × (n < 2 ^ 32)
 unfolding number_of
 number_of-is word n e =

@@ -4,6 +4,7 @@
 mod command;
 mod program;
 mod stop;
+mod term;
 mod word;
 
 pub use program::read_program;

@@ -1,23 +1,22 @@
-// Blocks, functions and the whole text.
-ghost use Rattle.std.specs.Prelude.{◌≡◌, List, length, IfOk, IfSome, IsSomeAnd};
+// Functions and the whole text.
+ghost use Rattle.std.specs.Prelude.{◌≡◌, List, IfOk, IfSome, IsSomeAnd};
 ghost use Rattle.lb_syntax.specs.Names.{IsName};
-ghost use Rattle.lb_syntax.specs.Tree.{Procedure, block_of, procedure_of, program_of};
-ghost use Rattle.lb_syntax.specs.Printing.{program_text};
-ghost use Rattle.lb_syntax.specs.Small.{IsSmall};
-ghost use Rattle.lb_small_text.specs.Reading.{Gives, block_at, function_at, end_at, program_at};
+ghost use Rattle.lb_syntax.specs.Tree.{Procedure, procedure_of, program_of};
+ghost use Rattle.lb_small_text.specs.Canonical.{IsCanonicalText};
+ghost use Rattle.lb_small_text.specs.Reading.{Gives, function_at, end_at, program_at};
 
-use crate::command::command;
+use crate::command::block;
 use crate::stop::Stop;
-use crate::word::{name, skip, strip};
-use lb_syntax::{Block, Function, Program};
+use crate::word::{name, skip};
+use lb_syntax::{Function, Program};
 use sqlite_items::Items;
 use std::alloc::{AllocError, Global};
 
-/// The program of the part that is compiled so far whose canonical text this is,
+/// The program of the part that is compiled so far whose canonical text this is, at most 64 brackets open at once,
 /// or none where there is no such program. An error is want of memory.
 pub fn read_program(alloc: Global, text: &[u8]) -> Result<Option<Program>, AllocError>
-    ensures found { IfOk result (λ found. IfSome found (λ p. IsSmall (program_of p) × (program_text (program_of p) ≡ text.now))) }
-    ensures complete { IfOk result (λ found. (t : List Procedure) → IsSmall t → program_text t ≡ text.now → IsSomeAnd found (λ p. program_of p ≡ t)) }
+    ensures found { IfOk result (λ found. IfSome found (λ p. IsCanonicalText (program_of p) text.now)) }
+    ensures complete { IfOk result (λ found. (t : List Procedure) → IsCanonicalText t text.now → IsSomeAnd found (λ p. program_of p ≡ t)) }
 {
     match program(alloc, text) {
         Ok(program) => Ok(Some(program)),
@@ -50,6 +49,9 @@ fn end(rest: &[u8]) -> Result<(), Stop>
     }
 }
 
+// The most brackets open at once.
+const MOST_BRACKETS: u32 = 64;
+
 // The function of this name at the front, without parameters and results, and what follows it.
 #[tactic(auto, unfolding(crate::specs::Reading::function_at))]
 fn function<'a>(alloc: Global, text: &'a [u8], called: &[u8]) -> Result<(Function, &'a [u8]), Stop>
@@ -59,7 +61,8 @@ fn function<'a>(alloc: Global, text: &'a [u8], called: &[u8]) -> Result<(Functio
     let rest = skip(text, b"fn ")?;
     let rest = skip(rest, called)?;
     let rest = skip(rest, b"() {\n")?;
-    let (body, rest) = block(alloc, rest)?;
+    let (body, rest) = block(alloc, MOST_BRACKETS, 0, rest)?;
+    let rest = skip(rest, b"\n")?;
     let function = Function {
         name: name(alloc, called)?,
         params: Items::new(alloc),
@@ -67,20 +70,4 @@ fn function<'a>(alloc: Global, text: &'a [u8], called: &[u8]) -> Result<(Functio
         body,
     };
     Ok((function, rest))
-}
-
-// The lines up to the one that closes the block, and what follows that.
-fn block(alloc: Global, text: &[u8]) -> Result<(Block, &[u8]), Stop>
-    ensures { Gives (λ x. (block_of x.0, x.1.now)) result (block_at (length text.now) text.now) }
-{
-    let mut commands = Items::new(alloc);
-    let mut rest = text;
-    loop {
-        if let Some(after) = strip(rest, b"}\n") {
-            return Ok((Block { commands }, after));
-        }
-        let (command, after) = command(alloc, rest)?;
-        commands.push(command)?;
-        rest = after;
-    }
 }
