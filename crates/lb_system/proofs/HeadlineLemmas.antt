@@ -13,7 +13,7 @@ use Rattle.lb_source.specs.Source.{src}
 use Rattle.lb_small.specs.declared.instr.SmallInstr.{SmallInstr}
 use Rattle.lb_small.specs.Runs.{Configuration, start, moves, isa, IsHalted}
 use Rattle.lb_small.proofs.RunLemmas.{moves-committed}
-use Rattle.lb_small_compile.specs.Correct.{AreWords, Follows}
+use Rattle.lb_small_code.specs.Correct.{AreWords, Follows}
 use Rattle.lb_syntax.specs.Names.{Text}
 use Rattle.lb_system.specs.Request.{IsReply, AreReplies, IsRequest}
 use Rattle.lb_system.specs.Answers.{Known, IsBuilt}

@@ -1,18 +1,17 @@
 -- What the top call owes to its caller.
-use Rattle.std.specs.Prelude.{◌≡◌, ℕ, ◌*◌, ◌≤◌, ◌⊎◌, List, length, map, Some, None}
+use Rattle.std.specs.Prelude.{◌≡◌, ℕ, ◌+◌, ◌*◌, ◌≤◌, ◌⊎◌, List, length, map, Some, None}
 use Rattle.std.specs.declared.option.Option.{Option}
 use Rattle.std.specs.Io.KnownBytes.{Appends}
 use Rattle.lb_ports.specs.Bytes.{ReadsAll, ReadsUpTo, ReadsMoreThan, AppendsPrefix}
 use Rattle.lb_ports.specs.Faults.{Rose}
 use Rattle.lb_syntax.specs.Tree.{Procedure}
-use Rattle.lb_syntax.specs.Needs.{code_need, variables, IsWithinLimits}
+use Rattle.lb_syntax.specs.Needs.{code_need, variables, greatest_depth, IsWithinLimits}
 use Rattle.lb_syntax.specs.Layouts.{IsValidLayout}
-use Rattle.lb_syntax.specs.Printing.{program_text}
-use Rattle.lb_syntax.specs.Small.{IsSmall}
 use Rattle.lb_syntax.specs.declared.layout.Layout.{Layout}
 use Rattle.lb_small.specs.declared.instr.SmallInstr.{SmallInstr}
 use Rattle.lb_small.specs.Ranges.{AreInRange}
-use Rattle.lb_small_compile.specs.Correct.{Follows}
+use Rattle.lb_small_code.specs.Correct.{Follows}
+use Rattle.lb_small_text.specs.Canonical.{IsCanonicalText}
 use Rattle.lb_system.specs.declared.top.Fault.{Fault}
 use Rattle.lb_system.specs.declared.top.Fault.TheVariants.{Usage, Write, Memory}
 use Rattle.lb_syntax.specs.Names.{Text}
@@ -32,20 +31,22 @@ most_input = 1048576
 abbrev pub AreInForm : List Text → Type 0
 AreInForm words = (n : ℕ) × (replies : List ℕ) × IsRequest words n replies
 
--- code and a layout that a program may have: no more words than it asks for, and frames of 4 bytes for each variable
+-- code and a layout that a program may have: no more words than it asks for, and frames of 4 bytes for each variable and
+-- for each level of the function's deepest expression
 pub record IsCodeOf (p : List Procedure) (code : List SmallInstr) (layout : Layout) : Type 0 where
   pub least : 1 ≤ length code
   pub most : length code ≤ code_need p
   pub in_range : AreInRange code
   pub valid : IsValidLayout layout p
-  pub slots : map (λ frame. frame.size) layout.frames ≡ map (λ f. 4 * variables f) p
+  pub slots : map (λ frame. frame.size) layout.frames ≡ map (λ f. 4 * (variables f + greatest_depth f.body)) p
 
 -- the input was read whole, and is the canonical text of a program whose code and layout these are; every run of the code
 -- does what the program does
 pub record IsBuilt (old new : Known) (p : List Procedure) (code : List SmallInstr) (layout : Layout) : Type 0 where
-  pub read : ReadsAll old new (program_text p)
-  pub short : length (program_text p) ≤ most_input
-  pub small : IsSmall p
+  pub text : Text
+  pub read : ReadsAll old new text
+  pub short : length text ≤ most_input
+  pub canonical : IsCanonicalText p text
   pub within : IsWithinLimits p
   pub compiled : IsCodeOf p code layout
   pub follows : Follows p layout code
@@ -54,7 +55,7 @@ pub record IsBuilt (old new : Known) (p : List Procedure) (code : List SmallInst
 abbrev pub IsUnbuilt : Known → Known → Type 0
 IsUnbuilt old new =
     ReadsMoreThan old new most_input
-    ⊎ ((text : Text) × ReadsAll old new text × ((p : List Procedure) → IsSmall p → IsWithinLimits p → program_text p ≡ text → ⊥))
+    ⊎ ((text : Text) × ReadsAll old new text × ((p : List Procedure) → IsCanonicalText p text → IsWithinLimits p → ⊥))
 
 -- the report that was asked for
 abbrev pub IsReport : List Text → List SmallInstr → Text → Type 0
