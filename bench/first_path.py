@@ -16,6 +16,10 @@ EVENT_BYTES = 12
 CASES = {
     "a loop that writes for ever": "fn init() {\n}\nfn loop() {\n  MMIOWRITE(268509196, 1);\n}\n",
     "an empty loop": "fn init() {\n}\nfn loop() {\n}\n",
+    "a loop of arithmetic": (
+        "fn init() {\n  x = 1;\n  while 1 {\n    x = ((x * 1103515245) + 12345);\n"
+        "    y = ((x >> 16) % 1000);\n  }\n}\nfn loop() {\n}\n"
+    ),
 }
 
 

@@ -1,10 +1,8 @@
 // The top call beside the source's interpreter: the same events, one by one.
 use crate::call::{call_plain, whole};
-use lb_small_compile::compile;
-use lb_small_text::read_program;
-use lb_source::{Reason, SourceEnd, SourceRun, interpret};
+use crate::source::{event_lines, source_run};
+use lb_source::{Reason, SourceEnd};
 use lb_trace::print_trace;
-use std::alloc::{AllocError, Global};
 use std::test::Fail;
 
 // A program, its replies as words and as numbers, how many events its code does in 1,000 instructions, and how the
@@ -16,31 +14,6 @@ struct Row<'a> {
     input: &'a str,
     events: usize,
     end: SourceEnd,
-}
-
-// What the source does, if the text is a program that is built.
-fn source_run(
-    alloc: Global,
-    input: &[u8],
-    replies: &[u32],
-) -> Result<Option<SourceRun>, AllocError> {
-    let Some(program) = read_program(alloc, input)? else {
-        return Ok(None);
-    };
-    let Ok(built) = compile(alloc, &program) else {
-        return Ok(None);
-    };
-    Ok(Some(interpret(alloc, &program, &built.layout, 1000, replies)?))
-}
-
-// The event lines of a report, of 21 bytes each, of which there are this many.
-fn event_lines(report: &[u8], events: usize) -> &[u8] {
-    let size = events.saturating_mul(21);
-    if size <= report.len() {
-        &report[report.len() - size..]
-    } else {
-        report
-    }
 }
 
 #[test]
@@ -93,7 +66,7 @@ fn does_what_the_source_does(rt: HostRuntime) -> Result<(), Fail> {
     for row in &rows {
         let a = call_plain(rt.alloc(), &whole(row.words, row.input.as_bytes()))?;
         assert_eq!(rt; a.ended.status, 0, "of {}", row.input);
-        let source = source_run(rt.alloc(), row.input.as_bytes(), row.replies)?;
+        let source = source_run(rt.alloc(), row.input.as_bytes(), 1000, row.replies)?;
         let source = source.ok_or("not built")?;
         assert_eq!(rt; source.end, row.end, "of {}", row.input);
         assert_eq!(rt;
@@ -119,13 +92,13 @@ fn writes_for_ever(rt: HostRuntime) -> Result<(), Fail> {
         rt.alloc(),
         &whole(&["bulb", "run", "1000"], input.as_bytes()),
     )?;
-    let source = source_run(rt.alloc(), input.as_bytes(), &[])?;
+    let source = source_run(rt.alloc(), input.as_bytes(), 1000, &[])?;
     let source = source.ok_or("not built")?;
-    // Two starts of two instructions each; then five and a jump for each write: 166 writes in 996 instructions.
+    // Two starts of two instructions each; then seven and a jump for each write: 124 writes in 992 instructions.
     let lines = print_trace(rt.alloc(), source.trace.as_slice())?;
-    let written = event_lines(a.sink.held(), 166);
+    let written = event_lines(a.sink.held(), 124);
     assert_eq!(rt; source.trace.as_slice().len(), 999);
     assert!(rt; lines.starts_with(written));
-    assert!(rt; a.sink.held().starts_with(b"mmio 166\nend running\n"));
+    assert!(rt; a.sink.held().starts_with(b"mmio 124\nend running\n"));
     Ok(())
 }

@@ -130,8 +130,16 @@ fn refuses_words_and_texts(rt: HostRuntime) -> Result<(), Fail> {
         not_built("fn init() {\n  fn = 1;\n}\nfn loop() {\n}\n"),
         not_built("fn init() {\n x = 1;\n}\nfn loop() {\n}\n"),
         not_built("fn init() {\n  x = 1 ;\n}\nfn loop() {\n}\n"),
-        not_built("fn init() {\n  skip;\n}\nfn loop() {\n}\n"),
-        not_built("fn init() {\n  x = (1 + 2);\n}\nfn loop() {\n}\n"),
+        not_built("fn init() {\n  x = load4(0);\n}\nfn loop() {\n}\n"),
+        not_built("fn init() {\n  store4(4096, 1);\n}\nfn loop() {\n}\n"),
+        not_built("fn init() {\n  stackalloc 4 as x {\n  }\n}\nfn loop() {\n}\n"),
+        not_built("fn init() {\n  loop();\n}\nfn loop() {\n}\n"),
+        not_built("fn init() {\n}\nfn loop() {\n}\nfn f() {\n}\n"),
+        not_built("fn init() {\n  if 1 {\n  } else {\n  }\n}\nfn loop() {\n}\n"),
+        not_built("fn init() {\n  if 1 {\n  skip;\n  }\n}\nfn loop() {\n}\n"),
+        not_built("fn init() {\n  x = 1 + 2;\n}\nfn loop() {\n}\n"),
+        not_built("fn init() {\n  x = (1 +  2);\n}\nfn loop() {\n}\n"),
+        not_built("fn init() {\n  if = 3;\n}\nfn loop() {\n}\n"),
         not_built("fn init() {\r\n}\r\nfn loop() {\r\n}\r\n"),
     ];
     for row in &rows {

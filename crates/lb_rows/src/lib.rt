@@ -1,11 +1,11 @@
 //! Worked examples, run through the public calls of the other crates: what no clause says, and that each call
-//! answers otherwise than by want of memory. It has tests alone.
+//! answers otherwise than by want of memory. Its public functions make the calls, for
+//! other crates of rows too.
 #![tactic(auto)]
 
 #[cfg(test)]
 mod adapters;
-#[cfg(test)]
-mod call;
+pub mod call;
 #[cfg(test)]
 mod compared;
 #[cfg(test)]
@@ -14,3 +14,4 @@ mod first_path;
 mod limits;
 #[cfg(test)]
 mod pieces;
+pub mod source;

@@ -56,7 +56,7 @@ fn builds_frames_up_to_2032_bytes(rt: HostRuntime) -> Result<(), Fail> {
     assert_eq!(rt; a.ended.status, 0);
     let frames = a.ended.layout.frames.as_slice();
     assert_eq!(rt; frames.len(), 2);
-    assert_eq!(rt; frames[0].size, 4 * 473);
+    assert_eq!(rt; frames[0].size, 4 * (473 + 1));
     assert_eq!(rt; frames[1].size, 0);
     let past = assignments(rt.alloc(), 474, 1)?;
     assert_eq!(rt; status(rt.alloc(), &past)?, 10);

@@ -1,0 +1,4 @@
+pub mod NestLemmas
+pub mod ChainLemmas
+pub mod RuleLemmas
+pub mod BuildLemmas
