@@ -1,0 +1,15 @@
+pub mod Words
+pub mod Lexing
+pub mod Running
+pub mod Back
+pub mod StepBack
+pub mod Ahead
+pub mod Depth
+pub mod TextRuns
+pub mod Wide
+pub mod Faulty
+pub mod Table
+pub mod Place
+pub mod SameToken
+pub mod Same
+pub mod Whole
