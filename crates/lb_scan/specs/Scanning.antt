@@ -1,0 +1,112 @@
+-- What the private functions say.
+use Rattle.std.specs.Prelude.{◌≡◌, ℕ, ◌<◌, ◌≤◌, ◌^◌, ◌⊎◌, Bool, true, false, ◌&&◌, ◌==◌, [], ◌∷◌, ◌++◌, length, take, drop, slice_index, Some, is_some}
+use Rattle.std.specs.Char.{is_digit}
+use Rattle.std.specs.List.{list_all}
+use Rattle.std.specs.Str.Parse.{digits_value}
+use Rattle.lb_syntax.specs.Brackets.{most_brackets}
+use Rattle.lb_syntax.specs.Names.{Text}
+use Rattle.lb_spelling.specs.declared.fault.TextKind.TheVariants.{Ended, NumberTooWide}
+use Rattle.lb_spelling.specs.declared.symbol.Symbol.{Symbol}
+use Rattle.lb_spelling.specs.Machine.{Stack, Lex, Between, InComment, Part, Stuck, run, next, unexpected}
+use Rattle.lb_spelling.specs.Tokens.{Token, Numeral, Mode, Outside, Slash, Comment, gap, is_blank, is_word_byte, lexeme, joins, IsLongest}
+use Rattle.lb_scan.specs.declared.stop.Stop.{Stop}
+
+-- ---- blanks and comments
+
+abbrev pub lex_of : Mode → Lex
+lex_of Outside = Between
+lex_of Slash = Part (47 ∷ [])
+lex_of Comment = InComment
+
+-- blanks and comments, begun in a mode, stand in s before rest
+pub record Skips (m : Mode) (s rest : Text) : Type 0 where
+  pub runs : (n : ℕ) (k : Stack) → n ≤ most_brackets → run most_brackets s (lex_of m) n k ≡ run most_brackets rest Between n k
+  pub last : gap true m s ≡ gap true Outside rest
+  pub front : ((before : Text) × (s ≡ before ++ rest) × (gap false m before ≡ true)) ⊎ (rest ≡ [])
+
+-- no blank and no comment stands at the front
+abbrev pub BeginsToken : Text → Type 0
+BeginsToken [] = Unit {0}
+BeginsToken (b ∷ []) = is_blank b ≡ false
+BeginsToken (b ∷ c ∷ s) = (is_blank b ≡ false) × ((b == 47) && (c == 47) ≡ false)
+
+-- ---- faults
+
+-- behind the first byte of a token that x expects, s has this fault, whatever is to come behind the token
+abbrev pub IsStuckIn : Symbol → Text → Stop → Type 0
+IsStuckIn x s stop = (n : ℕ) (k : Stack) → run most_brackets (drop 1 s) (Part (take 1 s)) n (x ∷ k) ≡ Stuck stop.kind stop.left
+
+-- ---- numbers
+
+-- the text begins with a digit
+abbrev pub begins_with_digit : ℕ → Text → Bool
+begins_with_digit radix [] = false
+begins_with_digit radix (b ∷ s) = is_digit b radix
+
+-- no letter, digit or underscore comes next
+abbrev pub EndsRun : Text → Type 0
+EndsRun [] = Unit {0}
+EndsRun (b ∷ s) = is_word_byte b ≡ false
+
+-- digits stand in s before rest, one or more
+pub record Digits (radix : ℕ) (s before rest : Text) : Type 0 where
+  pub parts : s ≡ before ++ rest
+  pub some : 0 < length before
+  pub all : list_all (λ b. is_digit b radix) before ≡ true
+  pub small : digits_value radix before < 2 ^ 32
+
+-- the longest run at the front of s is digits, of this value
+pub record ReadsDigits (radix : ℕ) (s : Text) (value : ℕ) (rest : Text) : Type 0 where
+  pub before : Text
+  pub digits : Digits radix s before rest
+  pub value_is : digits_value radix before ≡ value
+  pub ends : EndsRun rest
+
+-- a letter, a digit or an underscore stands behind digits, and makes no number with them
+pub record DigitsFault (radix : ℕ) (s : Text) (stop : Stop) : Type 0 where
+  pub before : Text
+  pub byte : ℕ
+  pub more : Text
+  pub digits : Digits radix s before (byte ∷ more)
+  pub in_run : is_word_byte byte ≡ true
+  pub left : stop.left ≡ length (byte ∷ more)
+  pub kind : ((is_digit byte radix ≡ false) × (stop.kind ≡ unexpected byte)) ⊎ ((is_digit byte radix ≡ true) × (2 ^ 32 ≤ digits_value radix (before ++ byte ∷ [])) × (stop.kind ≡ NumberTooWide))
+
+-- no digit stands at the front
+abbrev pub NoDigitFault : Text → Stop → Type 0
+NoDigitFault [] stop = (stop.kind ≡ Ended) × (stop.left ≡ 0)
+NoDigitFault (b ∷ s) stop = (is_digit b 16 ≡ false) × (stop.kind ≡ unexpected b) × (stop.left ≡ length (b ∷ s))
+
+-- the number stands at the front of s, before rest
+pub record ReadsNumber (s : Text) (value : ℕ) (rest : Text) : Type 0 where
+  pub word : Text
+  pub parts : s ≡ word ++ rest
+  pub spelled : lexeme word ≡ Some (Numeral value)
+  pub longest : IsLongest word rest
+
+-- wherever a number is expected
+abbrev pub NumberFault : Text → Stop → Type 0
+NumberFault s stop = (x : Symbol) → is_some (next x (Numeral 0)) ≡ true → IsStuckIn x s stop
+
+-- ---- words and signs
+
+-- each byte of the first len of s makes what stands before it longer, and the next byte doesn't, where len isn't over 32
+pub record IsSpelled (s : Text) (len : ℕ) : Type 0 where
+  pub some : 0 < len
+  pub within : len ≤ length s
+  pub short : len ≤ 33
+  pub joined : (i : ℕ) → 0 < i → i < len → joins (take i s) (slice_index s i) ≡ true
+  pub longest : len ≤ 32 → IsLongest (take len s) (drop len s)
+
+-- w spells the token t, which x takes
+pub record IsTaken (x : Symbol) (w : Text) (t : Token) : Type 0 where
+  pub spelled : lexeme w ≡ Some t
+  pub taken : is_some (next x t) ≡ true
+
+-- the token t, which x takes, stands at the front of s, before rest
+pub record ReadsWord (x : Symbol) (s : Text) (t : Token) (rest : Text) : Type 0 where
+  pub word : Text
+  pub parts : s ≡ word ++ rest
+  pub spelled : lexeme word ≡ Some t
+  pub longest : IsLongest word rest
+  pub taken : is_some (next x t) ≡ true

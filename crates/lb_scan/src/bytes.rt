@@ -1,0 +1,65 @@
+// Tests on bytes.
+ghost use Rattle.std.specs.Prelude.{◌≡◌};
+ghost use Rattle.std.specs.Char.{is_digit};
+ghost use Rattle.lb_syntax.specs.Names.{is_name_start};
+ghost use Rattle.lb_spelling.specs.Tokens.{is_blank, is_word_byte, begins_with, same};
+ghost use Rattle.lb_spelling.specs.Machine.{unexpected};
+
+use lb_spelling::TextKind;
+
+/// Whether it is a space, a tab, LF or CR.
+#[tactic(auto, unfolding(lb_spelling::specs::Tokens::is_blank))]
+pub fn is_blank(b: u8) -> bool
+    ensures { result ≡ is_blank b }
+{
+    b == b' ' || b == b'\t' || b == b'\n' || b == b'\r'
+}
+
+/// Whether it is a decimal digit.
+pub fn is_digit(b: u8) -> bool
+    ensures { result ≡ is_digit b 10 }
+{
+    (b as char).is_digit(10)
+}
+
+/// Whether it is a letter, a digit or an underscore.
+#[tactic(auto, unfolding(lb_spelling::specs::Tokens::is_word_byte))]
+pub fn is_word_byte(b: u8) -> bool
+    ensures { result ≡ is_word_byte b }
+{
+    b.is_ascii_alphanumeric() || b == b'_'
+}
+
+/// Whether it is a letter or an underscore.
+pub fn is_name_start(b: u8) -> bool
+    ensures { result ≡ is_name_start b }
+{
+    b.is_ascii_alphabetic() || b == b'_'
+}
+
+/// The kind of the fault at a byte that begins nothing.
+#[tactic(auto, unfolding(lb_spelling::specs::Places::is_plain))]
+pub fn unexpected(b: u8) -> TextKind
+    ensures { result ≡ unexpected b }
+{
+    if b == b'\t' || b == b'\n' || b == b'\r' || (b' ' <= b && b <= b'~') {
+        TextKind::Unexpected
+    } else {
+        TextKind::BadByte
+    }
+}
+
+/// Whether both are the same bytes.
+#[tactic(auto, unfolding(lb_spelling::specs::Tokens::same))]
+pub fn same(a: &[u8], b: &[u8]) -> bool
+    ensures { result ≡ same a.now b.now }
+{
+    begins_with(a, b) && begins_with(b, a)
+}
+
+/// Whether `front` begins the bytes.
+pub fn begins_with(front: &[u8], bytes: &[u8]) -> bool
+    ensures { result ≡ begins_with front.now bytes.now }
+{
+    bytes.starts_with(front)
+}

@@ -1,0 +1,87 @@
+// Numbers.
+ghost use Rattle.std.specs.Prelude.{◌≡◌, ◌<◌, ◌≤◌, ◌+◌, ◌*◌, ◌^◌, ◌++◌, ◌⊎◌, true, false, IfOk, IfErr, MatchOption};
+ghost use Rattle.lb_spelling.specs.Tokens.{is_hex, hex_mark};
+ghost use Rattle.lb_scan.specs.Scanning.{begins_with_digit, ReadsDigits, DigitsFault, NoDigitFault, ReadsNumber, NumberFault};
+
+use crate::bytes::{is_word_byte, unexpected};
+use crate::gap::first;
+use crate::stop::Stop;
+use lb_spelling::TextKind;
+
+/// The number at the front, which begins with a digit, and the bytes behind it.
+pub fn number(bytes: &[u8]) -> Result<(u32, &[u8]), Stop>
+    requires { begins_with_digit 10 bytes.now ≡ true }
+    ensures found { IfOk result (λ r. ReadsNumber bytes.now r.0 r.1.now) }
+    ensures fault { IfErr result (λ stop. NumberFault bytes.now stop) }
+{
+    match behind_mark(bytes) {
+        None => digits(10, bytes),
+        Some(rest) => hexadecimal(rest),
+    }
+}
+
+// The bytes behind the mark of a hexadecimal number.
+fn behind_mark(bytes: &[u8]) -> Option<&[u8]>
+    ensures { MatchOption result (is_hex bytes.now ≡ false) (λ rest. bytes.now ≡ hex_mark ++ rest.now) }
+{
+    bytes.strip_prefix(b"0x")
+}
+
+// The number behind its mark, which has one digit or more.
+fn hexadecimal(bytes: &[u8]) -> Result<(u32, &[u8]), Stop>
+    ensures found { IfOk result (λ r. ReadsDigits 16 bytes.now r.0 r.1.now) }
+    ensures fault { IfErr result (λ stop. NoDigitFault bytes.now stop ⊎ DigitsFault 16 bytes.now stop) }
+{
+    let Some((b, _)) = first(bytes) else {
+        return Err(Stop {
+            kind: TextKind::Ended,
+            left: 0,
+        });
+    };
+    if !(b as char).is_digit(16) {
+        return Err(Stop {
+            kind: unexpected(b),
+            left: bytes.len(),
+        });
+    }
+    digits(16, bytes)
+}
+
+// The number of these digits, as many as there are, and the bytes behind them.
+fn digits(radix: u32, bytes: &[u8]) -> Result<(u32, &[u8]), Stop>
+    requires low { 2 ≤ radix }
+    requires high { radix ≤ 16 }
+    requires some { begins_with_digit radix bytes.now ≡ true }
+    ensures found { IfOk result (λ r. ReadsDigits radix bytes.now r.0 r.1.now) }
+    ensures fault { IfErr result (λ stop. DigitsFault radix bytes.now stop) }
+{
+    let mut value: u32 = 0;
+    let mut rest = bytes;
+    while let Some((b, after)) = first(rest) {
+        if !is_word_byte(b) {
+            return Ok((value, rest));
+        }
+        let Some(digit) = (b as char).to_digit(radix) else {
+            return Err(Stop {
+                kind: unexpected(b),
+                left: rest.len(),
+            });
+        };
+        let Some(longer) = with_digit(value, radix, digit) else {
+            return Err(Stop {
+                kind: TextKind::NumberTooWide,
+                left: rest.len(),
+            });
+        };
+        value = longer;
+        rest = after;
+    }
+    Ok((value, rest))
+}
+
+// The number with one digit more, if it is below 2^32.
+fn with_digit(value: u32, radix: u32, digit: u32) -> Option<u32>
+    ensures { MatchOption result (2 ^ 32 ≤ value * radix + digit) (λ longer. (longer ≡ value * radix + digit) × (longer < 2 ^ 32)) }
+{
+    value.checked_mul(radix)?.checked_add(digit)
+}
