@@ -1,0 +1,10 @@
+pub mod ListLemmas
+pub mod BlockLemmas
+pub mod Spelled
+pub mod Shallow
+pub mod SpelledTokens
+pub mod Lexemes
+pub mod SpelledWords
+pub mod SpelledTerms
+pub mod SpelledCommands
+pub mod SpelledPrograms
