@@ -1,0 +1,20 @@
+use Rattle.std.proofs.lemmas.Result.{err_from_is_err_and, IfOk-weaker, IfErr-weaker}
+use Rattle.lb_text.proofs.Words.{named_is_name}
+use Rattle.lb_text.proofs.Steps.{reads_all, fails_all, nothing_more}
+use Rattle.lb_text.proofs.Trees.{term_of-Literal, term_of-Var}
+use Rattle.lb_text.proofs.term.+term.Goals as goal
+
+pub term-returns-clause-found : goal.term-returns-clause-found
+term-returns-clause-found t c = IfOk-weaker c.term_from.result _ _ (λ r p. reads_all c.requires c.in_ok-word.ensures.found p) c.term_from.ensures.found
+
+pub term-returns-clause-fault : goal.term-returns-clause-fault
+term-returns-clause-fault t c = IfErr-weaker c.term_from.result _ _ (λ e p. fails_all e c.requires c.in_ok-word.ensures.found p) c.term_from.ensures.fault
+
+pub term_from-checked-requires : goal.term_from-checked-requires
+term_from-checked-requires t c = let p = rw c.in-Name.is at c.requires.took in named_is_name _ _ _ p.takes.stands
+
+pub term_from-returns-in-Number-clause-found : goal.term_from-returns-in-Number-clause-found
+term_from-returns-in-Number-clause-found t c = rw (c.in-Number.is, term_of-Literal c.in-Number.value) (nothing_more _ _ _ c.requires.depth)
+
+pub term_from-returns-in_ok-checked-in-Name-clause-found : goal.term_from-returns-in_ok-checked-in-Name-clause-found
+term_from-returns-in_ok-checked-in-Name-clause-found t c = rw (c.in-Name.is, c.in_ok-checked-in-Name.ensures, term_of-Var c.in-Name.spelling.now) (nothing_more _ _ _ c.requires.depth)

@@ -1,0 +1,96 @@
+// Calls of functions and accesses of devices.
+ghost use Rattle.std.specs.Prelude.{◌≡◌, ◌≤◌, ◌-◌, ◌∷◌, [], List, map, IfOk, IfErr};
+ghost use Rattle.lb_syntax.specs.Names.{Text};
+ghost use Rattle.lb_syntax.specs.Brackets.{most_brackets};
+ghost use Rattle.lb_syntax.specs.Tree.{term_of, command_of};
+ghost use Rattle.lb_spelling.specs.declared.symbol.Symbol.TheVariants as symbols;
+ghost use Rattle.lb_spelling.specs.Tokens.{OpenParen, CloseParen, Semicolon, Stands};
+ghost use Rattle.lb_spelling.specs.Grammar.{◌then◌, TermAt, ArgumentsAt, TargetsAt, CommandAt};
+ghost use Rattle.lb_text.specs.Reading.{Reads, Fails, After, token_of_callee};
+
+use crate::halt::Halt;
+use crate::term::{term, term_from};
+use crate::token::{sign, token};
+use lb_scan::Word;
+use lb_spelling::Symbol;
+use lb_syntax::{Action, Cmd, Expr, Name};
+use sqlite_items::Items;
+use std::alloc::Global;
+
+/// What a call calls.
+#[derive(Drop)]
+pub enum Callee {
+    /// A function of the program.
+    Function(Name),
+    /// A device.
+    Device(Action),
+}
+
+/// The call of `callee` from behind its first bracket, the innermost that is open, on, and what follows it.
+pub fn call(
+    alloc: Global,
+    depth: u32,
+    targets: Items<Name>,
+    callee: Callee,
+    bytes: &[u8],
+) -> Result<(Cmd, &[u8]), Halt>
+    requires some { 1 ≤ depth }
+    requires few { depth ≤ most_brackets }
+    ensures found { IfOk result (λ r. Reads depth (symbols.Arguments ∷ symbols.Semicolon ∷ []) (After (TargetsAt targets then Stands (token_of_callee callee) then Stands OpenParen) (CommandAt (command_of r.0))) (depth - 1) [] bytes.now r.1.now) }
+    ensures fault { IfErr result (λ e. Fails depth (symbols.Arguments ∷ symbols.Semicolon ∷ []) bytes.now e) }
+{
+    let (arguments, rest) = arguments(alloc, depth, bytes)?;
+    let rest = sign(Symbol::Semicolon, depth - 1, rest)?;
+    let command = match callee {
+        Callee::Function(function) => Cmd::Call {
+            targets,
+            function,
+            arguments,
+        },
+        Callee::Device(action) => Cmd::Interact {
+            targets,
+            action,
+            arguments,
+        },
+    };
+    Ok((command, rest))
+}
+
+// The arguments from behind the bracket before them on, and what follows the bracket behind them.
+fn arguments(alloc: Global, depth: u32, bytes: &[u8]) -> Result<(Items<Expr>, &[u8]), Halt>
+    requires { depth ≤ most_brackets }
+    ensures found { IfOk result (λ r. Reads depth (symbols.Arguments ∷ []) (ArgumentsAt (map term_of r.0) then Stands CloseParen) (depth - 1) [] bytes.now r.1.now) }
+    ensures fault { IfErr result (λ e. Fails depth (symbols.Arguments ∷ []) bytes.now e) }
+{
+    let (word, rest) = token(Symbol::Arguments, depth, bytes)?;
+    if let Word::CloseParen = word {
+        return Ok((Items::new(alloc), rest));
+    }
+    let (first, rest) = term_from(alloc, depth, word, rest)?;
+    more_arguments(alloc, depth, first, rest)
+}
+
+// The arguments from the first on, which was read, and what follows the bracket behind them.
+fn more_arguments(
+    alloc: Global,
+    depth: u32,
+    first: Expr,
+    bytes: &[u8],
+) -> Result<(Items<Expr>, &[u8]), Halt>
+    requires { depth ≤ most_brackets }
+    ensures found { IfOk result (λ r. Reads depth (symbols.MoreArguments ∷ []) (After (TermAt (term_of first)) (ArgumentsAt (map term_of r.0) then Stands CloseParen)) (depth - 1) [] bytes.now r.1.now) }
+    ensures fault { IfErr result (λ e. Fails depth (symbols.MoreArguments ∷ []) bytes.now e) }
+{
+    let mut arguments = Items::new(alloc);
+    arguments.push(first)?;
+    let mut rest = bytes;
+    loop {
+        let (word, after) = token(Symbol::MoreArguments, depth, rest)?;
+        if let Word::CloseParen = word {
+            return Ok((arguments, after));
+        }
+        let (argument, after) = term(alloc, depth, after)?;
+        arguments.push(argument)?;
+        rest = after;
+    }
+}

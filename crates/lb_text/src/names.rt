@@ -1,0 +1,95 @@
+// Names and lists of names.
+ghost use Rattle.std.specs.Prelude.{◌≡◌, ◌≤◌, ◌-◌, ◌∷◌, [], true, IfOk, IfErr};
+ghost use Rattle.lb_syntax.specs.Names.{IsName};
+ghost use Rattle.lb_syntax.specs.Brackets.{most_brackets};
+ghost use Rattle.lb_spelling.specs.declared.symbol.Symbol.TheVariants as symbols;
+ghost use Rattle.lb_spelling.specs.Tokens.{CloseParen, Stands};
+ghost use Rattle.lb_spelling.specs.Grammar.{◌then◌, NameAt, NamesAt};
+ghost use Rattle.lb_text.specs.declared.halt.Halt.TheVariants.{Memory};
+ghost use Rattle.lb_text.specs.Reading.{Reads, Fails, ReadsMore, ends_names};
+
+use crate::halt::Halt;
+use crate::token::token;
+use lb_scan::Word;
+use lb_spelling::Symbol;
+use lb_syntax::{Name, NameFault};
+use sqlite_items::Items;
+use std::alloc::{AllocError, Global};
+
+/// The name that these bytes, which spell one, are.
+pub fn checked(alloc: Global, bytes: &[u8]) -> Result<Name, AllocError>
+    requires { IsName bytes.now }
+    ensures { IfOk result (λ name. name ≡ bytes.now) }
+{
+    match Name::new(alloc, bytes) {
+        Ok(name) => Ok(name),
+        Err(NameFault::Memory) => Err(AllocError),
+        Err(NameFault::NotAName) => unreachable!(),
+    }
+}
+
+/// The name at the front, and what follows it.
+pub fn name(alloc: Global, depth: u32, bytes: &[u8]) -> Result<(Name, &[u8]), Halt>
+    requires { depth ≤ most_brackets }
+    ensures found { IfOk result (λ r. Reads depth (symbols.Name ∷ []) (NameAt r.0) depth [] bytes.now r.1.now) }
+    ensures fault { IfErr result (λ e. Fails depth (symbols.Name ∷ []) bytes.now e) }
+{
+    let (word, rest) = token(Symbol::Name, depth, bytes)?;
+    let Word::Name(spelling) = word else {
+        unreachable!()
+    };
+    Ok((checked(alloc, spelling)?, rest))
+}
+
+/// A list of one name.
+pub fn one(alloc: Global, name: Name) -> Result<Items<Name>, AllocError>
+    ensures { IfOk result (λ names. names ≡ name ∷ []) }
+{
+    let mut names = Items::new(alloc);
+    names.push(name)?;
+    Ok(names)
+}
+
+/// The parameters from behind the bracket before them on, and what follows the bracket behind them.
+pub fn params(alloc: Global, depth: u32, bytes: &[u8]) -> Result<(Items<Name>, &[u8]), Halt>
+    requires { depth ≤ most_brackets }
+    ensures found { IfOk result (λ r. Reads depth (symbols.Names ∷ []) (NamesAt r.0 then Stands CloseParen) (depth - 1) [] bytes.now r.1.now) }
+    ensures fault { IfErr result (λ e. Fails depth (symbols.Names ∷ []) bytes.now e) }
+{
+    let (word, rest) = token(Symbol::Names, depth, bytes)?;
+    match word {
+        Word::CloseParen => Ok((Items::new(alloc), rest)),
+        Word::Name(spelling) => {
+            let names = one(alloc, checked(alloc, spelling)?)?;
+            more_names(alloc, Symbol::MoreNames, depth, names, rest)
+        }
+        _ => unreachable!(),
+    }
+}
+
+/// These names and more of them, each behind a comma, and what follows the bracket or the `=` that ends them,
+/// as `more` says.
+pub fn more_names(
+    alloc: Global,
+    more: Symbol,
+    depth: u32,
+    names: Items<Name>,
+    bytes: &[u8],
+) -> Result<(Items<Name>, &[u8]), Halt>
+    requires depth { depth ≤ most_brackets }
+    requires more { ends_names more ≡ true }
+    ensures found { IfOk result (λ r. ReadsMore depth more names r.0 bytes.now r.1.now) }
+    ensures fault { IfErr result (λ e. Fails depth (more ∷ []) bytes.now e) }
+{
+    let mut names = names;
+    let mut rest = bytes;
+    loop {
+        let (word, after) = token(more, depth, rest)?;
+        let Word::Comma = word else {
+            return Ok((names, after));
+        };
+        let (next, after) = name(alloc, depth, after)?;
+        names.push(next)?;
+        rest = after;
+    }
+}
