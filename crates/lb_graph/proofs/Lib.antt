@@ -1,0 +1,3 @@
+pub mod BestLemmas
+pub mod PathLemmas
+pub mod SearchLemmas

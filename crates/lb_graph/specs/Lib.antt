@@ -1,0 +1,3 @@
+pub mod Best
+pub mod Paths
+pub mod Search

@@ -1,0 +1,32 @@
+-- What a search marks, and the order in which it finds it.
+use Rattle.std.specs.Prelude.{◌≡◌, ℕ, ◌<◌, ◌≤◌, ◌⊎◌, List, Bool, true, false, length, slice_index, slice_index_or, Contains, count_by}
+use Rattle.lb_graph.specs.Paths.{successors, LeadsTo}
+
+-- node v is marked; what isn't a node never is
+abbrev pub IsMarked : List Bool → ℕ → Type 0
+IsMarked marks v = slice_index_or marks v false ≡ true
+
+-- the order has the marked nodes, each once
+pub record IsOrderOf (marks : List Bool) (order : List ℕ) : Type 0 where
+  pub marked : (k : ℕ) → k < length order → IsMarked marks (slice_index order k)
+  pub listed : (v : ℕ) → IsMarked marks v → Contains order v
+  pub count : count_by (λ b. b) marks ≡ length order
+
+-- these nodes are marked too, and follow at the end of the order
+pub record Adds (calls : List ℕ) (marks : List Bool) (order : List ℕ) (marks' : List Bool) (order' : List ℕ) : Type 0 where
+  pub as_long : length marks' ≡ length marks
+  pub is_order : IsOrderOf marks' order'
+  pub longer : length order ≤ length order'
+  pub same_order : (k : ℕ) → k < length order → slice_index order' k ≡ slice_index order k
+  pub kept : (v : ℕ) → IsMarked marks v → IsMarked marks' v
+  pub reached : (v : ℕ) → Contains calls v → v < length marks → IsMarked marks' v
+  pub only : (v : ℕ) → IsMarked marks' v → IsMarked marks v ⊎ Contains calls v
+
+-- the search from start has marked what it led to, and those that the first nodes of its order lead to
+pub record IsSearch (g : List (List ℕ)) (start done : ℕ) (marks : List Bool) (order : List ℕ) : Type 0 where
+  pub as_long : length marks ≡ length g
+  pub is_order : IsOrderOf marks order
+  pub few_done : done ≤ length order
+  pub sound : (v : ℕ) → IsMarked marks v → LeadsTo g start v
+  pub begun : (v : ℕ) → Contains (successors g start) v → v < length g → IsMarked marks v
+  pub followed : (k : ℕ) → k < done → (v : ℕ) → Contains (successors g (slice_index order k)) v → v < length g → IsMarked marks v
