@@ -1,0 +1,18 @@
+//! The rules of the language, and what a program that keeps them needs.
+#![tactic(auto)]
+
+mod checked;
+mod checker;
+mod commands;
+mod counts;
+mod fault;
+mod functions;
+mod lookup;
+mod names;
+mod rule;
+mod rules;
+mod stack;
+
+pub use checked::{Checked, Needs};
+pub use checker::check;
+pub use fault::{CheckError, CheckFault};

@@ -1,0 +1,109 @@
+// The rules in their order.
+ghost use Rattle.std.specs.Prelude.{◌<◌, ◌^◌, map};
+ghost use Rattle.lb_syntax.specs.Tree.{procedure_of};
+ghost use Rattle.lb_syntax.specs.Rules.{function_names};
+ghost use Rattle.lb_check.specs.Order.{repeated};
+ghost use Rattle.lb_check.specs.Parts.{parts};
+ghost use Rattle.lb_check.specs.Faults.{where_true, faults};
+ghost use Rattle.lb_check.specs.Verdict.{Keeps, Tells, Settles};
+
+use crate::commands::check_commands;
+use crate::counts::code_need;
+use crate::fault::{CheckError, CheckFault};
+use crate::functions::check_functions;
+use crate::lookup::has_function;
+use crate::names::{first_repeated, names_of};
+use crate::rule::{CommandRule, FunctionRule, Rule};
+use lb_syntax::Function;
+use std::alloc::Global;
+
+/// The rules on the form of a program, in the order in which they are asked.
+pub const FORM_RULES: [Rule; 12] = [
+    Rule::FunctionCount,
+    Rule::FunctionNames,
+    Rule::OfFunction(FunctionRule::Names),
+    Rule::Init,
+    Rule::Again,
+    Rule::OfFunction(FunctionRule::Entry),
+    Rule::OfFunction(FunctionRule::Counts),
+    Rule::OfCommand(CommandRule::BlockSize),
+    Rule::OfCommand(CommandRule::Callee),
+    Rule::OfCommand(CommandRule::Arity),
+    Rule::OfCommand(CommandRule::Targets),
+    Rule::OfCommand(CommandRule::Access),
+];
+
+/// The rules on the needs of a program, the stack's aside.
+pub const NEED_RULES: [Rule; 3] = [
+    Rule::OfFunction(FunctionRule::FrameNeed),
+    Rule::OfCommand(CommandRule::JumpNeed),
+    Rule::CodeNeed,
+];
+
+// The most functions, and the most words of code.
+const MOST_FUNCTIONS: usize = 256;
+
+const MOST_WORDS: u64 = 32_768;
+
+/// Whether these functions keep these rules, in their order.
+pub fn check_rules(alloc: Global, rules: &[Rule], functions: &[Function]) -> Result<(), CheckError>
+    requires { parts (map procedure_of functions.now) < 2 ^ 30 }
+    ensures { Settles (map procedure_of functions.now) (map Keeps rules.now) result }
+{
+    for rule in rules {
+        check_rule(alloc, *rule, functions)?;
+    }
+    Ok(())
+}
+
+// Whether these functions keep the rule.
+fn check_rule(alloc: Global, rule: Rule, functions: &[Function]) -> Result<(), CheckError>
+    requires { parts (map procedure_of functions.now) < 2 ^ 30 }
+    ensures { Tells (faults rule (map procedure_of functions.now)) result }
+{
+    match rule {
+        Rule::FunctionCount => {
+            let count = functions.len() as u64;
+            refuse_if(
+                functions.len() > MOST_FUNCTIONS,
+                CheckFault::TooManyFunctions { count },
+            )
+        }
+        Rule::FunctionNames => check_function_names(alloc, functions),
+        Rule::Init => refuse_if(
+            !has_function(functions, b"init".as_slice()),
+            CheckFault::NoInit,
+        ),
+        Rule::Again => refuse_if(
+            !has_function(functions, b"loop".as_slice()),
+            CheckFault::NoLoop,
+        ),
+        Rule::CodeNeed => {
+            let words = code_need(functions);
+            refuse_if(words > MOST_WORDS, CheckFault::CodeNeed { words })
+        }
+        Rule::OfFunction(rule) => check_functions(alloc, rule, functions),
+        Rule::OfCommand(rule) => check_commands(alloc, rule, functions),
+    }
+}
+
+// The fault, where there is one.
+fn refuse_if(broken: bool, fault: CheckFault) -> Result<(), CheckError>
+    ensures { Tells (where_true broken fault) result }
+{
+    if broken {
+        return Err(CheckError::Fault(fault));
+    }
+    Ok(())
+}
+
+// Whether no function has the name of an earlier one.
+fn check_function_names(alloc: Global, functions: &[Function]) -> Result<(), CheckError>
+    ensures { Tells (map CheckFault.DuplicateFunction (repeated (function_names (map procedure_of functions.now)))) result }
+{
+    let names = names_of(alloc, functions)?;
+    match first_repeated(alloc, names.as_slice())? {
+        None => Ok(()),
+        Some(function) => Err(CheckError::Fault(CheckFault::DuplicateFunction { function })),
+    }
+}
