@@ -1,7 +1,6 @@
 // A whole program, run.
 ghost use Rattle.std.specs.Prelude.{◌≡◌, ◌≤◌, IfOk};
 ghost use Rattle.lb_syntax.specs.Tree.{program_of};
-ghost use Rattle.lb_syntax.specs.Rules.{KeepsRules};
 ghost use Rattle.lb_syntax.specs.Layouts.{IsValidLayout};
 ghost use Rattle.lb_source.specs.Source.{callables, src};
 ghost use Rattle.lb_source.specs.Machine.{FollowsEver, FollowsWhole, FramesFit};
@@ -9,25 +8,25 @@ ghost use Rattle.lb_source.specs.Machine.{FollowsEver, FollowsWhole, FramesFit};
 use crate::ends::{SourceEnd, SourceRun};
 use crate::machine::{Flow, Machine, start};
 use crate::run::run_call;
+use lb_check::Checked;
 use lb_syntax::{Layout, Program};
 use lb_trace::Trace;
 use std::alloc::{AllocError, Global};
 
-/// What a program does under a layout, with so much fuel in all and these replies of its devices:
+/// What a program does under a layout that is valid for it, with so much fuel in all and these replies of its devices:
 /// `init` once, then `loop` for ever. Fails only for want of memory.
 pub fn interpret(
     alloc: Global,
-    program: &Program,
+    program: &Checked,
     layout: &Layout,
     fuel: u64,
     replies: &[u32],
 ) -> Result<SourceRun, AllocError>
-    requires rules { KeepsRules (program_of program.now) }
-    requires layout { IsValidLayout layout.now (program_of program.now) }
+    requires { IsValidLayout layout.now (program_of program.now) }
     ensures { IfOk result (λ run. run ≡ src (program_of program.now) layout.now fuel replies.now) }
 {
     let mut m = start(alloc, fuel, replies)?;
-    let end = run_whole(&mut m, alloc, program, layout)?;
+    let end = run_whole(&mut m, alloc, program.program(), layout)?;
     Ok(SourceRun {
         trace: Trace::from_vec(m.trace),
         end,

@@ -14,4 +14,4 @@ mod row;
 #[cfg(test)]
 mod sketch;
 #[cfg(test)]
-mod small;
+mod three;

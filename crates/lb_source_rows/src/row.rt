@@ -1,6 +1,6 @@
 // A program and what it does, and whether it does it.
 use crate::sketch::{Line, block};
-use crate::small::{NotRun, run_three};
+use crate::three::{NotRun, run_three};
 use lb_source::{Reason, SourceEnd};
 use lb_trace::Event;
 use std::alloc::Global;

@@ -1,5 +1,5 @@
 // Programs written down as constant data, and the trees that they say.
-use crate::small::NotRun;
+use crate::three::NotRun;
 use lb_syntax::{Action, Block, Cmd, Expr, Name, Op, Width};
 use sqlite_items::{Boxed, Items};
 use std::alloc::Global;

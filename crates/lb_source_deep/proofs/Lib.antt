@@ -1,4 +1,0 @@
-pub mod NestLemmas
-pub mod ChainLemmas
-pub mod RuleLemmas
-pub mod BuildLemmas

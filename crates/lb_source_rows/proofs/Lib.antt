@@ -1,4 +1,0 @@
-pub mod FormLemmas
-pub mod NeedLemmas
-pub mod FrameLemmas
-pub mod SmallLemmas
