@@ -10,7 +10,7 @@ use Rattle.lb_syntax.specs.Needs.{words, term_words, code_need}
 use Rattle.lb_small.specs.declared.instr.SmallInstr.{SmallInstr}
 use Rattle.lb_small.specs.declared.instr.SmallInstr.TheVariants as instr
 use Rattle.lb_small_code.specs.Slots.{slot_names, frame_words}
-use Rattle.lb_small_code.specs.Code.{operation_code, term_code, choice_code, loop_code, command_code, frame_code, procedure_code, jump_back, program_code, immediate, minus, slot_offset, temporary_offset}
+use Rattle.lb_small_code.specs.Code.{operation_code, term_code, choice_code, loop_code, command_code, frame_code, procedure_code, jump_back, pair_code, immediate, minus, slot_offset, temporary_offset}
 use Rattle.lb_small_code.proofs.Placed.{IsPlaced}
 
 length-operation_code : (op : Op) → length (operation_code op) ≤ 2
@@ -89,18 +89,18 @@ length-command_code slots temporaries (Then c b) h =
 length-command_code slots temporaries _ h = absurd h
 
 -- the parts of a program's code
-pub length-program_code : (f g : Procedure)
-    → length (program_code (f ∷ g ∷ [])) ≡ 2 + (length (command_code (slot_names f) f.body) + (2 + (length (command_code (slot_names g) g.body) + 1)))
-length-program_code f g =
+pub length-pair_code : (f g : Procedure)
+    → length (pair_code f g) ≡ 2 + (length (command_code (slot_names f) f.body) + (2 + (length (command_code (slot_names g) g.body) + 1)))
+length-pair_code f g =
     let b = command_code (slot_names f) f.body in
     let e = command_code (slot_names g) g.body in
     let j : List SmallInstr = instr.Jal 0 (jump_back g) ∷ [] in
     omega (arith, length-append (procedure_code f) (procedure_code g ++ j), length-append (frame_code (frame_words f)) b, length-append (procedure_code g) j, length-append (frame_code (frame_words g)) e)
 
 -- a program has no more words than it asks for
-pub program_within_need : (f g : Procedure) (kf kg : ℕ) → IsPlaced (slot_names f) kf f.body → IsPlaced (slot_names g) kg g.body
-    → (1 ≤ length (program_code (f ∷ g ∷ []))) × (length (program_code (f ∷ g ∷ [])) ≤ code_need (f ∷ g ∷ []))
-program_within_need f g kf kg hf hg = (
-  omega (arith, length-program_code f g),
-  omega (arith, length-program_code f g, length-command_code (slot_names f) kf f.body hf, length-command_code (slot_names g) kg g.body hg),
+pub pair_within_need : (f g : Procedure) (kf kg : ℕ) → IsPlaced (slot_names f) kf f.body → IsPlaced (slot_names g) kg g.body
+    → (1 ≤ length (pair_code f g)) × (length (pair_code f g) ≤ code_need (f ∷ g ∷ []))
+pair_within_need f g kf kg hf hg = (
+  omega (arith, length-pair_code f g),
+  omega (arith, length-pair_code f g, length-command_code (slot_names f) kf f.body hf, length-command_code (slot_names g) kg g.body hg),
 )

@@ -22,13 +22,13 @@ use Rattle.lb_small.proofs.StepLemmas.{run_at, plus_immediate-word, moves-lui, m
 use Rattle.lb_small.proofs.RegisterLemmas.{length-with_register, with_register-same, with_register-other}
 use Rattle.lb_small_code.specs.Slots.{slot_names, frame_words}
 use Rattle.lb_small_code.specs.Correct.{AreWords}
-use Rattle.lb_small_code.specs.Code.{immediate, minus, command_code, frame_code, procedure_code, jump_back, program_code}
+use Rattle.lb_small_code.specs.Code.{immediate, minus, command_code, frame_code, procedure_code, jump_back, pair_code}
 use Rattle.lb_small_code.proofs.Simulation.{Moves-one, Finishes, arrived, fits, leading, seq_comes, spending, end_comes, begin_comes, ever_comes}
 use Rattle.lb_small_code.proofs.CodePlaces.{HasAt, HasAt-front, HasAt-back, HasAt-whole}
 use Rattle.lb_small_code.proofs.StateRelation.{frame_base}
 use Rattle.lb_small_code.proofs.Placed.{IsPlaced}
 use Rattle.lb_small_code.proofs.CommandRuns.{At, trace_of, IsWaiting, CodeComes, back, command_comes}
-use Rattle.lb_small_code.proofs.CodeLemmas.{length-program_code}
+use Rattle.lb_small_code.proofs.CodeLemmas.{length-pair_code}
 
 length-zeros : (n : ℕ) → length (zeros n) ≡ n
 unfolding zeros
@@ -55,31 +55,59 @@ callable-small f frame name h =
     ap (λ (ps : List Text). record { name = f.name; params = ps; results = f.results; body = f.body; frame = frame.size; offsets = frame.sites }) h.no_params
     ∙ ap (λ (rs : List Text). record { name = f.name; params = []; results = rs; body = f.body; frame = frame.size; offsets = frame.sites }) h.no_results
 
--- what is called by a name
-callee-init : (f g : Procedure) (a b : FrameLayout) → IsSmallProcedure (codes "init") f → callee (callables (f ∷ g ∷ []) (a ∷ b ∷ [])) (codes "init") ≡ Some (framed f a)
-callee-init f g a b h =
-    let this : bytes_eq f.name (codes "init") ≡ true = ap (λ n. bytes_eq n (codes "init")) h.named ∙ bytes_eq-refl (codes "init") in
-    ap (λ t. if t then Some (callable f a) else callee (callables (g ∷ []) (b ∷ [])) (codes "init")) this ∙ ap Some (callable-small f a (codes "init") h)
+-- the first function of a program is called by its name
+callee-first : (f g : Procedure) (a b : FrameLayout) (name : Text) → IsSmallProcedure name f
+    → callee (callables (f ∷ g ∷ []) (a ∷ b ∷ [])) name ≡ Some (framed f a)
+callee-first f g a b name h =
+    let this : bytes_eq f.name name ≡ true = ap (λ n. bytes_eq n name) h.named ∙ bytes_eq-refl name in
+    ap (λ t. if t then Some (callable f a) else callee (callables (g ∷ []) (b ∷ [])) name) this ∙ ap Some (callable-small f a name h)
 
-callee-loop : (f g : Procedure) (a b : FrameLayout) → IsSmallProcedure (codes "init") f → IsSmallProcedure (codes "loop") g
-    → callee (callables (f ∷ g ∷ []) (a ∷ b ∷ [])) (codes "loop") ≡ Some (framed g b)
-callee-loop f g a b first h =
-    let other : bytes_eq f.name (codes "loop") ≡ false = ap (λ n. bytes_eq n (codes "loop")) first.named in
-    let this : bytes_eq g.name (codes "loop") ≡ true = ap (λ n. bytes_eq n (codes "loop")) h.named ∙ bytes_eq-refl (codes "loop") in
-    ap (λ t. if t then Some (callable f a) else callee (callables (g ∷ []) (b ∷ [])) (codes "loop")) other
-    ∙ ap (λ t. if t then Some (callable g b) else callee [] (codes "loop")) this
-    ∙ ap Some (callable-small g b (codes "loop") h)
+-- and the second one by its name, which is another
+callee-second : (f g : Procedure) (a b : FrameLayout) (other name : Text) → bytes_eq other name ≡ false → IsSmallProcedure other f → IsSmallProcedure name g
+    → callee (callables (f ∷ g ∷ []) (a ∷ b ∷ [])) name ≡ Some (framed g b)
+callee-second f g a b other name differs first h =
+    let not_this : bytes_eq f.name name ≡ false = ap (λ n. bytes_eq n name) first.named ∙ differs in
+    let this : bytes_eq g.name name ≡ true = ap (λ n. bytes_eq n name) h.named ∙ bytes_eq-refl name in
+    ap (λ t. if t then Some (callable f a) else callee (callables (g ∷ []) (b ∷ [])) name) not_this
+    ∙ ap (λ t. if t then Some (callable g b) else callee [] name) this
+    ∙ ap Some (callable-small g b name h)
+
+-- `init` and `loop` of a program, each in its frame
+pub record Finds (p : List Callable) (init again : Procedure) : Type 0 where
+  pub init_frame : FrameLayout
+  pub again_frame : FrameLayout
+  pub init_found : callee p (codes "init") ≡ Some (framed init init_frame)
+  pub again_found : callee p (codes "loop") ≡ Some (framed again again_frame)
+
+-- the program of two functions in two frames, `init` first
+pub init_first : (f g : Procedure) (a b : FrameLayout) → IsSmallProcedure (codes "init") f → IsSmallProcedure (codes "loop") g
+    → Finds (callables (f ∷ g ∷ []) (a ∷ b ∷ [])) f g
+init_first f g a b is_init is_loop = record {
+  init_frame = a;
+  again_frame = b;
+  init_found = callee-first f g a b (codes "init") is_init;
+  again_found = callee-second f g a b (codes "init") (codes "loop") refl is_init is_loop;
+}
+
+-- and `loop` first
+pub loop_first : (f g : Procedure) (a b : FrameLayout) → IsSmallProcedure (codes "loop") f → IsSmallProcedure (codes "init") g
+    → Finds (callables (f ∷ g ∷ []) (a ∷ b ∷ [])) g f
+loop_first f g a b is_loop is_init = record {
+  init_frame = b;
+  again_frame = a;
+  init_found = callee-second f g a b (codes "loop") (codes "init") refl is_loop is_init;
+  again_found = callee-first f g a b (codes "loop") is_loop;
+}
 
 -- `init` and then `loop` for ever, of these functions
 abbrev pub turns_of : List Callable → ℕ → Callable → Callable → State → SourceRun
 turns_of p n init again s = to_end (called p n init s) (for_ever n (called p n again))
 
-pub whole-small : (f g : Procedure) (a b : FrameLayout) (n : ℕ) (s : State) → IsSmallProcedure (codes "init") f → IsSmallProcedure (codes "loop") g
-    → whole (callables (f ∷ g ∷ []) (a ∷ b ∷ [])) n s ≡ turns_of (callables (f ∷ g ∷ []) (a ∷ b ∷ [])) n (framed f a) (framed g b) s
-whole-small f g a b n s is_init is_loop =
-    let p = callables (f ∷ g ∷ []) (a ∷ b ∷ []) in
-    ap (λ (o : Option Callable). to_end (enter o (run p n) [] [] s) (for_ever n (enter (callee p (codes "loop")) (run p n) [] []))) (callee-init f g a b is_init)
-    ∙ ap (λ (o : Option Callable). to_end (called p n (framed f a) s) (for_ever n (enter o (run p n) [] []))) (callee-loop f g a b is_init is_loop)
+pub whole-small : (p : List Callable) (f g : Procedure) (n : ℕ) (s : State) (found : Finds p f g)
+    → whole p n s ≡ turns_of p n (framed f found.init_frame) (framed g found.again_frame) s
+whole-small p f g n s found =
+    ap (λ (o : Option Callable). to_end (enter o (run p n) [] [] s) (for_ever n (enter (callee p (codes "loop")) (run p n) [] []))) found.init_found
+    ∙ ap (λ (o : Option Callable). to_end (called p n (framed f found.init_frame) s) (for_ever n (enter o (run p n) [] []))) found.again_found
 
 -- ---- frames
 
@@ -251,12 +279,12 @@ module _ (code : List SmallInstr) (small : length code ≤ 32768) (f g : Procedu
       (λ u d end less. ever_turns p n u d (omega (arith, some, less)) (subst (λ m. Ready (2 + m) u d) size_f end.ready))))
 
 module _ (f g : Procedure) (a b : FrameLayout) (few_f : frame_words f ≤ 474) (few_g : frame_words g ≤ 474)
-    (hf : IsPlaced (slot_names f) (greatest_depth f.body) f.body) (hg : IsPlaced (slot_names g) (greatest_depth g.body) g.body) (small : length (program_code (f ∷ g ∷ [])) ≤ 32768) where
-  pub program_finishes : (p : List Callable) (all : List ℕ) (n : ℕ) → AreWords all
-      → Finishes (moves (program_code (f ∷ g ∷ []))) trace_of (IsWaiting (program_code (f ∷ g ∷ []))) (length (program_code (f ∷ g ∷ []))) 0 (runs.start all) (suc n)
+    (hf : IsPlaced (slot_names f) (greatest_depth f.body) f.body) (hg : IsPlaced (slot_names g) (greatest_depth g.body) g.body) (small : length (pair_code f g) ≤ 32768) where
+  pub pair_finishes : (p : List Callable) (all : List ℕ) (n : ℕ) → AreWords all
+      → Finishes (moves (pair_code f g)) trace_of (IsWaiting (pair_code f g)) (length (pair_code f g)) 0 (runs.start all) (suc n)
       (turns_of p n (framed f a) (framed g b) (start n all))
-  program_finishes p all n words =
-      let code = program_code (f ∷ g ∷ []) in
+  pair_finishes p all n words =
+      let code = pair_code f g in
       let cf = command_code (slot_names f) f.body in
       let cg = command_code (slot_names g) g.body in
       let jump : List SmallInstr = instr.Jal 0 (jump_back g) ∷ [] in
@@ -270,7 +298,7 @@ module _ (f g : Procedure) (a b : FrameLayout) (few_f : frame_words f ≤ 474) (
       let all_g = HasAt-front code (2 + length cf) (procedure_code g) jump here_g in
       let place : 2 + length cf + length (procedure_code g) ≡ 2 + length cf + 2 + length cg = omega (arith, size_g) in
       let last = subst (λ i. HasAt code i jump) place (HasAt-back code (2 + length cf) (procedure_code g) jump here_g) in
-      code_finishes code small f g a b few_f few_g hf hg (length cf) (length cg) refl refl (length-program_code f g)
+      code_finishes code small f g a b few_f few_g hf hg (length cf) (length cg) refl refl (length-pair_code f g)
       (HasAt-front code 0 (frame_code (frame_words f)) cf here_f) (HasAt-back code 0 (frame_code (frame_words f)) cf here_f)
       (HasAt-front code (2 + length cf) (frame_code (frame_words g)) cg all_g) (HasAt-back code (2 + length cf) (frame_code (frame_words g)) cg all_g)
       last.0 p all n words

@@ -17,7 +17,7 @@ use Rattle.lb_small.specs.declared.instr.SmallInstr.{SmallInstr}
 use Rattle.lb_small.specs.declared.instr.SmallInstr.TheVariants as instr
 use Rattle.lb_small.specs.Ranges.{IsImmediate, IsUpperImmediate, IsJumpOffset, IsBranchOffset, IsInRange, AreInRange}
 use Rattle.lb_small_code.specs.Slots.{slot, slot_names, frame_words}
-use Rattle.lb_small_code.specs.Code.{immediate, minus, upper_part, lower_part, word_code, slot_offset, temporary_offset, operation_code, term_code, choice_code, loop_code, command_code, frame_code, procedure_code, jump_back, program_code}
+use Rattle.lb_small_code.specs.Code.{immediate, minus, upper_part, lower_part, word_code, slot_offset, temporary_offset, operation_code, term_code, choice_code, loop_code, command_code, frame_code, procedure_code, jump_back, pair_code}
 use Rattle.lb_small_code.proofs.Placed.{IsPlaced}
 use Rattle.lb_small_code.proofs.TermRuns.{depth_positive}
 use Rattle.lb_small_code.proofs.CodeLemmas.{length-term_code, length-command_code}
@@ -229,9 +229,9 @@ procedure_in_range : (f : Procedure) → frame_words f ≤ 474 → IsPlaced (slo
 procedure_in_range f few h near =
     append_in_range (frame_code (frame_words f)) (command_code (slot_names f) f.body) (frame_in_range (frame_words f) few) (command_in_range (slot_names f) (greatest_depth f.body) f.body few h near)
 
-pub program_in_range : (f g : Procedure) → frame_words f ≤ 474 → frame_words g ≤ 474 → IsPlaced (slot_names f) (greatest_depth f.body) f.body → IsPlaced (slot_names g) (greatest_depth g.body) g.body
-    → greatest_jump f.body ≤ 4080 → greatest_jump g.body ≤ 4080 → words g.body ≤ 32768 → AreInRange (program_code (f ∷ g ∷ []))
-program_in_range f g few_f few_g hf hg near_f near_g room =
+pub pair_in_range : (f g : Procedure) → frame_words f ≤ 474 → frame_words g ≤ 474 → IsPlaced (slot_names f) (greatest_depth f.body) f.body → IsPlaced (slot_names g) (greatest_depth g.body) g.body
+    → greatest_jump f.body ≤ 4080 → greatest_jump g.body ≤ 4080 → words g.body ≤ 32768 → AreInRange (pair_code f g)
+pair_in_range f g few_f few_g hf hg near_f near_g room =
     let jump = instr.Jal 0 (jump_back g) in
     append_in_range (procedure_code f) (procedure_code g ++ jump ∷ []) (procedure_in_range f few_f hf near_f)
     (append_in_range (procedure_code g) (jump ∷ []) (procedure_in_range g few_g hg near_g)

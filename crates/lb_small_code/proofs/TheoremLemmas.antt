@@ -1,31 +1,36 @@
 -- The laws of the code of a program.
-use Rattle.std.proofs.Common.{◌≡◌, ℕ, zero, suc, ◌+◌, ◌*◌, ◌%◌, ◌≤◌, List, [], ◌∷◌, ◌++◌, length, codes, refl, sym, ap, subst, arith}
-use Rattle.std.proofs.lemmas.List.Elements.{All-nil, All-head, All-tail}
+use Rattle.std.proofs.Common.{◌≡◌, ℕ, zero, suc, ◌+◌, ◌*◌, ◌%◌, ◌≤◌, inl, inr, if◌then◌else◌, List, [], ◌∷◌, ◌++◌, length, codes, refl, sym, ap, subst, arith}
+use Rattle.std.specs.Prelude.{All}
+use Rattle.std.specs.Str.{bytes_eq}
+use Rattle.std.proofs.lemmas.List.Elements.{All-nil, All-cons, All-head, All-tail}
 use Rattle.lb_syntax.specs.declared.tree.Action.TheVariants.{Read, Write}
 use Rattle.lb_syntax.specs.Tree.{Procedure}
 use Rattle.lb_syntax.specs.Tree.{Command, Skips, Sets, Unsets, Chooses, Repeats, Interacts, Ends, Then}
 use Rattle.lb_syntax.specs.Needs.{sites, variables, greatest_jump, greatest_depth, procedure_names, code_need, frame_need, most_jump, most_frame, IsWithinLimits}
-use Rattle.lb_syntax.specs.Layouts.{IsFrameOf, AreFramesOf, IsValidLayout}
+use Rattle.lb_syntax.specs.Layouts.{IsFrameOf, AreFramesOf}
 use Rattle.lb_syntax.specs.Small.{IsSmallCommand, IsSmallBlock, IsSmallProcedure}
 use Rattle.lb_syntax.specs.declared.layout.FrameLayout.{FrameLayout}
 use Rattle.lb_syntax.specs.declared.layout.Layout.{Layout}
+use Rattle.lb_source.specs.Run.{Callable}
 use Rattle.lb_source.specs.Source.{callables, start, whole}
 use Rattle.lb_source.specs.declared.ends.SourceRun.{SourceRun}
+use Rattle.lb_small.specs.declared.instr.SmallInstr.{SmallInstr}
 use Rattle.lb_small.specs.Ranges.{AreInRange}
 use Rattle.lb_small.specs.Runs.{Configuration, moves, isa, IsHalted}
 use Rattle.lb_small.specs.Runs as runs
 use Rattle.lb_small.proofs.MoveLemmas.{moves-extends, moves-halted, moves-waits, IsHalted-waits}
 use Rattle.lb_small_code.specs.Slots.{slot_names, frame_words, frame_of}
-use Rattle.lb_small_code.specs.Code.{program_code}
+use Rattle.lb_small_code.specs.Part.{IsSmallPair}
+use Rattle.lb_small_code.specs.Code.{pair_code, program_code}
 use Rattle.lb_small_code.specs.Correct.{AreWords, Follows, Reaches}
 use Rattle.lb_small_code.specs.Laws.{CodeFollows, CodeReaches, CodeIsWithinNeed, CodeIsInRange, LayoutIsValid}
 use Rattle.lb_small_code.proofs.Simulation.{Finishes, suc_times, agrees, stands_to_wait, reaches}
 use Rattle.lb_small_code.proofs.NameLemmas.{length-with_names}
 use Rattle.lb_small_code.proofs.Placed.{IsPlaced, procedure_placed}
 use Rattle.lb_small_code.proofs.CommandRuns.{trace_of, IsWaiting}
-use Rattle.lb_small_code.proofs.CodeLemmas.{program_within_need}
-use Rattle.lb_small_code.proofs.RangeLemmas.{program_in_range}
-use Rattle.lb_small_code.proofs.ProgramRuns.{whole-small, program_finishes}
+use Rattle.lb_small_code.proofs.CodeLemmas.{pair_within_need}
+use Rattle.lb_small_code.proofs.RangeLemmas.{pair_in_range}
+use Rattle.lb_small_code.proofs.ProgramRuns.{Finds, init_first, loop_first, whole-small, pair_finishes}
 
 -- ---- needs
 
@@ -52,8 +57,8 @@ module _ (f g : Procedure) (is_init : IsSmallProcedure (codes "init") f) (is_loo
   placed_g : IsPlaced (slot_names g) (greatest_depth g.body) g.body
   placed_g = procedure_placed g is_loop.small
 
-  within_need : (1 ≤ length (program_code (f ∷ g ∷ []))) × (length (program_code (f ∷ g ∷ [])) ≤ code_need (f ∷ g ∷ []))
-  within_need = program_within_need f g (greatest_depth f.body) (greatest_depth g.body) placed_f placed_g
+  within_need : (1 ≤ length (pair_code f g)) × (length (pair_code f g) ≤ code_need (f ∷ g ∷ []))
+  within_need = pair_within_need f g (greatest_depth f.body) (greatest_depth g.body) placed_f placed_g
 
   module _ (limits : IsWithinLimits (f ∷ g ∷ [])) where
     few_f : frame_words f ≤ 474
@@ -62,44 +67,78 @@ module _ (f g : Procedure) (is_init : IsSmallProcedure (codes "init") f) (is_loo
     few_g : frame_words g ≤ 474
     few_g = few_words g (All-head (λ (h : Procedure). frame_need h ≤ most_frame) g [] (All-tail (λ (h : Procedure). frame_need h ≤ most_frame) f (g ∷ []) limits.frames))
 
-    in_range : AreInRange (program_code (f ∷ g ∷ []))
+    in_range : AreInRange (pair_code f g)
     in_range =
         let jumps = limits.jumps in
-        program_in_range f g few_f few_g placed_f placed_g (All-head (λ (h : Procedure). greatest_jump h.body ≤ most_jump) f (g ∷ []) jumps)
+        pair_in_range f g few_f few_g placed_f placed_g (All-head (λ (h : Procedure). greatest_jump h.body ≤ most_jump) f (g ∷ []) jumps)
         (All-head (λ (h : Procedure). greatest_jump h.body ≤ most_jump) g [] (All-tail (λ (h : Procedure). greatest_jump h.body ≤ most_jump) f (g ∷ []) jumps)) (omega (arith, limits.code))
 
-    small : length (program_code (f ∷ g ∷ [])) ≤ 32768
+    small : length (pair_code f g) ≤ 32768
     small = omega (arith, within_need.1, limits.code)
 
-    -- the whole run, in frames of any layout
-    finishes : (frames : List FrameLayout) (all : List ℕ) (n : ℕ) → AreFramesOf frames (f ∷ g ∷ []) → AreWords all
-        → Finishes (moves (program_code (f ∷ g ∷ []))) trace_of (IsWaiting (program_code (f ∷ g ∷ []))) (length (program_code (f ∷ g ∷ []))) 0 (runs.start all) (suc n)
-        (whole (callables (f ∷ g ∷ []) frames) n (start n all))
-    finishes (a ∷ b ∷ []) all n fit are_words =
-        let code = program_code (f ∷ g ∷ []) in
+    -- the whole run of a program that has both, in any frames
+    finishes : (p : List Callable) → Finds p f g → (all : List ℕ) (n : ℕ) → AreWords all
+        → Finishes (moves (pair_code f g)) trace_of (IsWaiting (pair_code f g)) (length (pair_code f g)) 0 (runs.start all) (suc n) (whole p n (start n all))
+    finishes p found all n are_words =
+        let code = pair_code f g in
         subst (λ (r : SourceRun). Finishes (moves code) trace_of (IsWaiting code) (length code) 0 (runs.start all) (suc n) r)
-        (sym (whole-small f g a b n (start n all) is_init is_loop))
-        (program_finishes f g a b few_f few_g placed_f placed_g small (callables (f ∷ g ∷ []) (a ∷ b ∷ [])) all n are_words)
-    finishes [] all n fit are_words = absurd fit
-    finishes (a ∷ []) all n fit are_words = absurd fit.1
-    finishes (a ∷ b ∷ c ∷ frames) all n fit are_words = absurd fit.1.1
+        (sym (whole-small p f g n (start n all) found))
+        (pair_finishes f g found.init_frame found.again_frame few_f few_g placed_f placed_g small p all n are_words)
 
-    follows : (layout : Layout) → IsValidLayout layout (f ∷ g ∷ []) → Follows (f ∷ g ∷ []) layout (program_code (f ∷ g ∷ []))
-    follows layout valid =
-        let code = program_code (f ∷ g ∷ []) in record {
+    follows : (p : List Procedure) (layout : Layout) → Finds (callables p layout.frames) f g → Follows p layout (pair_code f g)
+    follows p layout found =
+        let code = pair_code f g in record {
           agrees = λ replies n are_words ok.
-              agrees (moves-extends code) (moves-waits code) {n = n} _ _ (omega arith) ok (finishes layout.frames replies n valid are_words);
+              agrees (moves-extends code) (moves-waits code) {n = n} _ _ (omega arith) ok (finishes (callables p layout.frames) found replies n are_words);
           runs = λ replies n are_words ok halted.
               IsHalted-waits code (isa code replies n)
-              (stands_to_wait (moves-extends code) (moves-waits code) {n = n} _ _ (omega arith) ok (finishes layout.frames replies n valid are_words) (moves-halted code (isa code replies n) halted)) halted;
+              (stands_to_wait (moves-extends code) (moves-waits code) {n = n} _ _ (omega arith) ok (finishes (callables p layout.frames) found replies n are_words) (moves-halted code (isa code replies n) halted)) halted;
         }
 
-    reaches_all : (layout : Layout) → IsValidLayout layout (f ∷ g ∷ []) → Reaches (f ∷ g ∷ []) layout (program_code (f ∷ g ∷ []))
-    reaches_all layout valid =
-        let code = program_code (f ∷ g ∷ []) in record {
+    reaches_all : (p : List Procedure) (layout : Layout) → code_need (f ∷ g ∷ []) ≡ code_need p → Finds (callables p layout.frames) f g → Reaches p layout (pair_code f g)
+    reaches_all p layout same found =
+        let code = pair_code f g in record {
           comes = λ replies n are_words ok.
-              reaches (moves-extends code) (moves-waits code) _ _ (more_times n (length code) (code_need (f ∷ g ∷ [])) within_need.1) ok (finishes layout.frames replies n valid are_words);
+              reaches (moves-extends code) (moves-waits code) _ _ (more_times n (length code) (code_need p) (omega (arith, within_need.1, same))) ok (finishes (callables p layout.frames) found replies n are_words);
         }
+
+-- ---- both orders
+
+-- a program asks for as many words whichever function stands first
+code_need-swap : (f g : Procedure) → code_need (f ∷ g ∷ []) ≡ code_need (g ∷ f ∷ [])
+code_need-swap f g = omega arith
+
+All-swap : {A : Type 0} (P : A → Type 0) (x y : A) → All P (x ∷ y ∷ []) → All P (y ∷ x ∷ [])
+All-swap P x y h = All-cons P y (x ∷ []) (All-head P y [] (All-tail P x (y ∷ []) h)) (All-cons P x [] (All-head P x (y ∷ []) h) (All-nil P))
+
+-- the limits say nothing of the order
+pub within-swap : (f g : Procedure) → IsWithinLimits (f ∷ g ∷ []) → IsWithinLimits (g ∷ f ∷ [])
+within-swap f g h = record {
+  code = omega (arith, h.code, code_need-swap f g);
+  jumps = All-swap (λ (k : Procedure). greatest_jump k.body ≤ most_jump) f g h.jumps;
+  frames = All-swap (λ (k : Procedure). frame_need k ≤ most_frame) f g h.frames;
+}
+
+-- the code of a program whose first function is `init`
+pub program_code-init_first : (f g : Procedure) → IsSmallPair f g → program_code (f ∷ g ∷ []) ≡ pair_code f g
+program_code-init_first f g h = ap (λ name. if bytes_eq name (codes "init") then pair_code f g else pair_code g f) h.0.named
+
+-- and of one whose first function is `loop`
+pub program_code-loop_first : (f g : Procedure) → IsSmallPair g f → program_code (f ∷ g ∷ []) ≡ pair_code g f
+program_code-loop_first f g h = ap (λ name. if bytes_eq name (codes "init") then pair_code f g else pair_code g f) h.1.named
+
+-- frames of a program of two functions are two
+finds-init_first : (f g : Procedure) (frames : List FrameLayout) → IsSmallPair f g → AreFramesOf frames (f ∷ g ∷ []) → Finds (callables (f ∷ g ∷ []) frames) f g
+finds-init_first f g [] h fit = absurd fit
+finds-init_first f g (a ∷ []) h fit = absurd fit.1
+finds-init_first f g (a ∷ b ∷ []) h fit = init_first f g a b h.0 h.1
+finds-init_first f g (a ∷ b ∷ c ∷ frames) h fit = absurd fit.1.1
+
+finds-loop_first : (f g : Procedure) (frames : List FrameLayout) → IsSmallPair g f → AreFramesOf frames (f ∷ g ∷ []) → Finds (callables (f ∷ g ∷ []) frames) g f
+finds-loop_first f g [] h fit = absurd fit
+finds-loop_first f g (a ∷ []) h fit = absurd fit.1
+finds-loop_first f g (a ∷ b ∷ []) h fit = loop_first f g a b h.1 h.0
+finds-loop_first f g (a ∷ b ∷ c ∷ frames) h fit = absurd fit.1.1
 
 -- ---- frames
 
@@ -141,29 +180,42 @@ frame_fits f h =
 pub code_follows : CodeFollows
 code_follows [] layout h limits valid = absurd h
 code_follows (f ∷ []) layout h limits valid = absurd h
-code_follows (f ∷ g ∷ []) layout h limits valid = follows f g h.0 h.1 limits layout valid
+code_follows (f ∷ g ∷ []) layout (inl h) limits valid =
+    subst (Follows (f ∷ g ∷ []) layout) (sym (program_code-init_first f g h)) (follows f g h.0 h.1 limits (f ∷ g ∷ []) layout (finds-init_first f g layout.frames h valid))
+code_follows (f ∷ g ∷ []) layout (inr h) limits valid =
+    subst (Follows (f ∷ g ∷ []) layout) (sym (program_code-loop_first f g h)) (follows g f h.0 h.1 (within-swap f g limits) (f ∷ g ∷ []) layout (finds-loop_first f g layout.frames h valid))
 code_follows (f ∷ g ∷ k ∷ p) layout h limits valid = absurd h
 
 pub code_reaches : CodeReaches
 code_reaches [] layout h limits valid = absurd h
 code_reaches (f ∷ []) layout h limits valid = absurd h
-code_reaches (f ∷ g ∷ []) layout h limits valid = reaches_all f g h.0 h.1 limits layout valid
+code_reaches (f ∷ g ∷ []) layout (inl h) limits valid =
+    subst (Reaches (f ∷ g ∷ []) layout) (sym (program_code-init_first f g h)) (reaches_all f g h.0 h.1 limits (f ∷ g ∷ []) layout refl (finds-init_first f g layout.frames h valid))
+code_reaches (f ∷ g ∷ []) layout (inr h) limits valid =
+    subst (Reaches (f ∷ g ∷ []) layout) (sym (program_code-loop_first f g h))
+    (reaches_all g f h.0 h.1 (within-swap f g limits) (f ∷ g ∷ []) layout (code_need-swap g f) (finds-loop_first f g layout.frames h valid))
 code_reaches (f ∷ g ∷ k ∷ p) layout h limits valid = absurd h
 
 pub code_is_within_need : CodeIsWithinNeed
 code_is_within_need [] h = absurd h
 code_is_within_need (f ∷ []) h = absurd h
-code_is_within_need (f ∷ g ∷ []) h = within_need f g h.0 h.1
+code_is_within_need (f ∷ g ∷ []) (inl h) =
+    subst (λ (code : List SmallInstr). (1 ≤ length code) × (length code ≤ code_need (f ∷ g ∷ []))) (sym (program_code-init_first f g h)) (within_need f g h.0 h.1)
+code_is_within_need (f ∷ g ∷ []) (inr h) =
+    let need = within_need g f h.0 h.1 in
+    subst (λ (code : List SmallInstr). (1 ≤ length code) × (length code ≤ code_need (f ∷ g ∷ []))) (sym (program_code-loop_first f g h)) (need.0, omega (arith, need.1, code_need-swap g f))
 code_is_within_need (f ∷ g ∷ k ∷ p) h = absurd h
 
 pub code_is_in_range : CodeIsInRange
 code_is_in_range [] h limits = absurd h
 code_is_in_range (f ∷ []) h limits = absurd h
-code_is_in_range (f ∷ g ∷ []) h limits = in_range f g h.0 h.1 limits
+code_is_in_range (f ∷ g ∷ []) (inl h) limits = subst AreInRange (sym (program_code-init_first f g h)) (in_range f g h.0 h.1 limits)
+code_is_in_range (f ∷ g ∷ []) (inr h) limits = subst AreInRange (sym (program_code-loop_first f g h)) (in_range g f h.0 h.1 (within-swap f g limits))
 code_is_in_range (f ∷ g ∷ k ∷ p) h limits = absurd h
 
 pub layout_is_valid : LayoutIsValid
 layout_is_valid [] h = absurd h
 layout_is_valid (f ∷ []) h = absurd h
-layout_is_valid (f ∷ g ∷ []) h = (frame_fits f h.0.small, (frame_fits g h.1.small, tt))
+layout_is_valid (f ∷ g ∷ []) (inl h) = (frame_fits f h.0.small, (frame_fits g h.1.small, tt))
+layout_is_valid (f ∷ g ∷ []) (inr h) = (frame_fits f h.1.small, (frame_fits g h.0.small, tt))
 layout_is_valid (f ∷ g ∷ k ∷ p) h = absurd h

@@ -1,7 +1,8 @@
 -- The instructions of a program. The value of an expression comes into register 5; while the right operand of an operation is
 -- evaluated, the value of the left one waits in a temporary, and then comes into register 6. Register 2 is the stack pointer.
-use Rattle.std.specs.Prelude.{ℕ, ◌+◌, ◌-◌, ◌*◌, ◌/◌, ◌%◌, ◌^◌, List, [], ◌∷◌, ◌++◌, length, ℤ}
+use Rattle.std.specs.Prelude.{ℕ, ◌+◌, ◌-◌, ◌*◌, ◌/◌, ◌%◌, ◌^◌, List, [], ◌∷◌, ◌++◌, length, ℤ, codes, if◌then◌else◌}
 use Rattle.std.specs.Int.{cast_signed, w32}
+use Rattle.std.specs.Str.{bytes_eq}
 use Rattle.lb_syntax.specs.Names.{Text}
 use Rattle.lb_syntax.specs.declared.tree.Action.TheVariants.{Read, Write}
 use Rattle.lb_syntax.specs.declared.tree.Op.{Op}
@@ -101,6 +102,10 @@ abbrev pub jump_back : Procedure → ℤ
 jump_back f = immediate (minus (4 * length (command_code (slot_names f) f.body)))
 
 -- `init`, then `loop`, then a jump back to the first command of `loop`
+abbrev pub pair_code : Procedure → Procedure → List SmallInstr
+pair_code init again = procedure_code init ++ (procedure_code again ++ instr.Jal 0 (jump_back again) ∷ [])
+
+-- the code of two functions, whichever of them is named `init`
 abbrev pub program_code : List Procedure → List SmallInstr
-program_code (init ∷ again ∷ []) = procedure_code init ++ (procedure_code again ++ instr.Jal 0 (jump_back again) ∷ [])
+program_code (f ∷ g ∷ []) = if bytes_eq f.name (codes "init") then pair_code f g else pair_code g f
 program_code _ = []

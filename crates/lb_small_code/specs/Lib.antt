@@ -1,3 +1,4 @@
+pub mod Part
 pub mod Slots
 pub mod Code
 pub mod Correct

@@ -6,3 +6,4 @@ pub mod PatchLemmas
 pub mod SmallParts
 pub mod SmallRules
 pub mod LimitLemmas
+pub mod CompiledLemmas

@@ -1,16 +1,14 @@
 -- The limits on a program of two functions, and its frames.
-use Rattle.std.proofs.Common.{◌≡◌, ℕ, ◌+◌, ◌*◌, ◌<◌, ◌≤◌, List, [], ◌∷◌, ◌++◌, length, sum, sym, ap, ◌∙◌, subst, zero-add, arith}
+use Rattle.std.proofs.Common.{◌≡◌, ℕ, ◌+◌, ◌*◌, ◌<◌, ◌≤◌, List, [], ◌∷◌, ◌++◌, length, sum, sym, ap, ◌∙◌, zero-add, arith}
 use Rattle.std.proofs.lemmas.List.Elements.{All-nil, All-cons, All-head, All-tail}
 use Rattle.lb_syntax.specs.Names.{Text}
 use Rattle.lb_syntax.specs.Tree.{Procedure}
 use Rattle.lb_syntax.specs.Needs.{command_names, procedure_names, distinct, variables, greatest_depth, greatest_jump, code_need, frame_need, most_words, most_jump, most_frame, IsWithinLimits}
-use Rattle.lb_syntax.specs.Layouts.{AreFramesOf, IsValidLayout}
-use Rattle.lb_syntax.specs.Small.{IsSmallBlock, IsSmall}
+use Rattle.lb_syntax.specs.Small.{IsSmallBlock}
 use Rattle.lb_syntax.specs.declared.layout.FrameLayout.{FrameLayout}
 use Rattle.lb_syntax.specs.declared.layout.Layout.{Layout}
-use Rattle.lb_small_code.specs.Slots.{with_names, slot_names, frame_words}
+use Rattle.lb_small_code.specs.Slots.{with_names, slot_names, frame_words, layout_of}
 use Rattle.lb_small_code.proofs.NameLemmas.{length-with_names}
-use Rattle.lb_small_code.proofs.TheoremLemmas.{layout_is_valid}
 use Rattle.lb_small_compile.proofs.SmallParts.{block_sites}
 
 abbrev HasJumps : Procedure → Type 0
@@ -61,9 +59,9 @@ frame_need-small f p r h =
 abbrev two_frames : ℕ → ℕ → List FrameLayout
 two_frames m n = record { size = 4 * m; sites = [] } ∷ record { size = 4 * n; sites = [] } ∷ []
 
--- frames of as many words as the code uses make a valid layout
-pub layout_fits : (layout : Layout) (f g : Procedure) (m n : ℕ) → IsSmall (f ∷ g ∷ []) → m ≡ frame_words f → n ≡ frame_words g
-    → layout.frames ≡ record { size = 4 * m; sites = [] } ∷ record { size = 4 * n; sites = [] } ∷ [] → IsValidLayout layout (f ∷ g ∷ [])
-layout_fits layout f g m n h first second e =
-    let frames = e ∙ ap (λ k. two_frames k n) first ∙ ap (two_frames (frame_words f)) second in
-    subst (λ (fs : List FrameLayout). AreFramesOf fs (f ∷ g ∷ [])) (sym frames) (layout_is_valid (f ∷ g ∷ []) h)
+-- frames of as many words as two functions use are the layout of these
+pub layout_fits : (layout : Layout) (f g : Procedure) (m n : ℕ) → m ≡ frame_words f → n ≡ frame_words g
+    → layout.frames ≡ record { size = 4 * m; sites = [] } ∷ record { size = 4 * n; sites = [] } ∷ [] → layout ≡ layout_of (f ∷ g ∷ [])
+layout_fits layout f g m n first second e =
+    ap (λ (frames : List FrameLayout). let made : Layout = record { frames = frames } in made)
+    (e ∙ ap (λ k. two_frames k n) first ∙ ap (two_frames (frame_words f)) second)

@@ -1,13 +1,14 @@
 -- A program of the part that keeps its limits keeps every rule.
-use Rattle.std.proofs.Common.{◌≡◌, ℕ, zero, suc, ◌≤◌, false, List, [], ◌∷◌, length, map, refl, sym, ap, ◌∙◌, subst, arith, lit≤, All, Contains}
+use Rattle.std.proofs.Common.{◌≡◌, ℕ, zero, suc, ◌≤◌, false, inl, inr, List, [], ◌∷◌, length, map, refl, sym, ap, ◌∙◌, subst, arith, lit≤, All, Contains}
 use Rattle.std.specs.Prelude.{codes}
 use Rattle.std.proofs.lemmas.List.Elements.{All-nil, All-contains}
 use Rattle.lb_syntax.specs.Names.{Text, is_among, AreDistinct}
 use Rattle.lb_syntax.specs.Tree.{Procedure}
 use Rattle.lb_syntax.specs.Needs.{frame_need, IsWithinLimits}
 use Rattle.lb_syntax.specs.Calls.{CallSite, callees, IsCallPath, IsRecursive, path_need}
-use Rattle.lb_syntax.specs.Rules.{IsBlockSize, IsGoodCall, KeepsFunctionRules, KeepsRules}
-use Rattle.lb_syntax.specs.Small.{IsSmallProcedure, IsSmall}
+use Rattle.lb_syntax.specs.Rules.{function_names, IsBlockSize, IsGoodCall, KeepsFunctionRules, KeepsRules}
+use Rattle.lb_syntax.specs.Small.{IsSmallProcedure}
+use Rattle.lb_small_code.specs.Part.{IsInPart}
 use Rattle.lb_small_compile.proofs.SmallParts.{block_sites, block_calls, block_accesses}
 
 All-two : {A : Type 0} (P : A → Type 0) (x y : A) → P x → P y → All P (x ∷ y ∷ [])
@@ -48,22 +49,28 @@ keeps_function_rules p name f h = record {
   no_recursion = not_recursive p f (no_callees name f h);
 }
 
-names_differ : (x y : Text) → x ≡ codes "init" → y ≡ codes "loop" → is_among (y ∷ []) x ≡ false
-names_differ x y e f = ap (λ z. is_among (y ∷ []) z) e ∙ ap (λ z. is_among (z ∷ []) (codes "init")) f
+names_differ : (x y u v : Text) → x ≡ u → y ≡ v → is_among (v ∷ []) u ≡ false → is_among (y ∷ []) x ≡ false
+names_differ x y u v e f differ = ap (λ z. is_among (y ∷ []) z) e ∙ ap (λ z. is_among (z ∷ []) u) f ∙ differ
 
-pub keeps_rules : (p : List Procedure) → IsSmall p → IsWithinLimits p → KeepsRules p
-keeps_rules [] h w = absurd h
-keeps_rules (f ∷ []) h w = absurd h
-keeps_rules (init ∷ again ∷ []) h w =
-    let p : List Procedure = init ∷ again ∷ [] in record {
+-- two functions of these names, in text order
+two_keep_rules : (f g : Procedure) (name other : Text) → is_among (other ∷ []) name ≡ false → IsSmallProcedure name f → IsSmallProcedure other g
+    → Contains (function_names (f ∷ g ∷ [])) (codes "init") → Contains (function_names (f ∷ g ∷ [])) (codes "loop") → IsWithinLimits (f ∷ g ∷ []) → KeepsRules (f ∷ g ∷ [])
+two_keep_rules f g name other differ first second has_init has_loop w =
+    let p : List Procedure = f ∷ g ∷ [] in record {
       few_functions = lit≤ tt;
-      distinct_functions = (names_differ init.name again.name h.0.named h.1.named, (refl, tt));
-      has_init = (0, (omega arith), h.0.named);
-      has_loop = (1, (omega arith), h.1.named);
-      functions = All-two (KeepsFunctionRules p) init again (keeps_function_rules p (codes "init") init h.0) (keeps_function_rules p (codes "loop") again h.1);
+      distinct_functions = (names_differ f.name g.name name other first.named second.named differ, (refl, tt));
+      has_init = has_init;
+      has_loop = has_loop;
+      functions = All-two (KeepsFunctionRules p) f g (keeps_function_rules p name f first) (keeps_function_rules p other g second);
       limits = w;
       stack = λ path is_path.
-          let none = All-two (λ (f : Procedure). callees f ≡ []) init again (no_callees (codes "init") init h.0) (no_callees (codes "loop") again h.1) in
+          let none = All-two (λ (h : Procedure). callees h ≡ []) f g (no_callees name f first) (no_callees other g second) in
           let need = short_path p 2032 none w.frames path is_path in omega (arith, need);
     }
+
+pub keeps_rules : (p : List Procedure) → IsInPart p → IsWithinLimits p → KeepsRules p
+keeps_rules [] h w = absurd h
+keeps_rules (f ∷ []) h w = absurd h
+keeps_rules (f ∷ g ∷ []) (inl h) w = two_keep_rules f g (codes "init") (codes "loop") refl h.0 h.1 (0, (omega arith), h.0.named) (1, (omega arith), h.1.named) w
+keeps_rules (f ∷ g ∷ []) (inr h) w = two_keep_rules f g (codes "loop") (codes "init") refl h.1 h.0 (1, (omega arith), h.0.named) (0, (omega arith), h.1.named) w
 keeps_rules (f ∷ g ∷ h ∷ fs) s w = absurd s

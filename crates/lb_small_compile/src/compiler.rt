@@ -1,13 +1,13 @@
 // From a program to its instructions and the layout of its frames.
-ghost use Rattle.std.specs.Prelude.{◌≡◌, ◌≤◌, ◌+◌, ◌*◌, [], ◌∷◌, codes, map, length, All, IfOk, OnOk, IsErrOf};
+ghost use Rattle.std.specs.Prelude.{◌≡◌, ◌≤◌, ◌+◌, ◌*◌, [], ◌∷◌, map, length, All, IfOk, OnOk, IsErrOf};
 ghost use Rattle.lb_syntax.specs.Tree.{procedure_of, program_of};
-ghost use Rattle.lb_syntax.specs.Needs.{code_need, variables, greatest_depth, IsWithinLimits};
+ghost use Rattle.lb_syntax.specs.Needs.{code_need, variables, greatest_depth, most_frame, IsWithinLimits};
 ghost use Rattle.lb_syntax.specs.Layouts.{IsValidLayout};
 ghost use Rattle.lb_syntax.specs.Rules.{KeepsRules};
-ghost use Rattle.lb_syntax.specs.Small.{IsSmall, IsSmallProcedure};
 ghost use Rattle.lb_small.specs.Ranges.{IsInRange};
-ghost use Rattle.lb_small_code.specs.Slots.{layout_of};
-ghost use Rattle.lb_small_code.specs.Code.{program_code};
+ghost use Rattle.lb_small_code.specs.Part.{IsSmallPair, IsInPart};
+ghost use Rattle.lb_small_code.specs.Slots.{frame_words, layout_of};
+ghost use Rattle.lb_small_code.specs.Code.{pair_code, program_code};
 ghost use Rattle.lb_small_code.specs.Correct.{Follows, Reaches};
 
 use crate::emit::emit_program;
@@ -28,10 +28,11 @@ pub struct Compiled {
     pub layout: Layout,
 }
 
-/// The code of a program of the small part, and the layout of its frames.
+/// The code of a program of the small part, in which either function may stand first, and the layout of its frames in the
+/// order of the text. `is_small` says which programs these are.
 /// `OverLimit` comes exactly where a need passes its limit, unless memory runs out first.
 pub fn compile(alloc: Global, program: &Program) -> Result<Compiled, CompileError>
-    requires { IsSmall (program_of program.now) }
+    requires { IsInPart (program_of program.now) }
 
     // From 1 word to as many as the program asks for, each an instruction that can be encoded.
     ensures words { IfOk result (λ c. (1 ≤ length c.code.items) × (length c.code.items ≤ code_need (program_of program.now))) }
@@ -52,30 +53,57 @@ pub fn compile(alloc: Global, program: &Program) -> Result<Compiled, CompileErro
     ensures over { IsErrOf result CompileError.OverLimit → ¬ (IsWithinLimits (program_of program.now)) }
 {
     match program.functions.as_slice() {
-        [init, again] => compile_functions(alloc, init, again),
+        [first, second] => compile_functions(alloc, first, second),
         _ => unreachable!(),
     }
 }
 
-// A program of two functions.
+// A program of two functions, in the order of its text.
 fn compile_functions(
     alloc: Global,
-    init: &Function,
-    again: &Function,
+    first: &Function,
+    second: &Function,
 ) -> Result<Compiled, CompileError>
-    requires init { IsSmallProcedure (codes "init") (procedure_of init.now) }
-    requires again { IsSmallProcedure (codes "loop") (procedure_of again.now) }
-    ensures code { IfOk result (λ c. c.code.items ≡ program_code (procedure_of init.now ∷ procedure_of again.now ∷ [])) }
-    ensures words { let p = procedure_of init.now ∷ procedure_of again.now ∷ [] in
-        IfOk result (λ c. (1 ≤ length c.code.items) × (length c.code.items ≤ code_need p)) }
-    ensures in_range { IfOk result (λ c. All IsInRange c.code.items) }
-    ensures runs { let p = procedure_of init.now ∷ procedure_of again.now ∷ [] in
-        IfOk result (λ c. Follows p c.layout c.code.items × Reaches p c.layout c.code.items) }
-    ensures layout { IfOk result (λ c. IsValidLayout c.layout (procedure_of init.now ∷ procedure_of again.now ∷ [])) }
-    ensures slots { let p = procedure_of init.now ∷ procedure_of again.now ∷ [] in
-        IfOk result (λ c. map (λ frame. frame.size) c.layout.frames ≡ map (λ f. 4 * (variables f + greatest_depth f.body)) p) }
+    requires { IsInPart (procedure_of first.now ∷ procedure_of second.now ∷ []) }
+    ensures code { IfOk result (λ c. c.code.items ≡ program_code (procedure_of first.now ∷ procedure_of second.now ∷ [])) }
+    ensures layout { IfOk result (λ c. c.layout ≡ layout_of (procedure_of first.now ∷ procedure_of second.now ∷ [])) }
+    ensures within { OnOk result (IsWithinLimits (procedure_of first.now ∷ procedure_of second.now ∷ [])) }
+    ensures over { IsErrOf result CompileError.OverLimit → ¬ (IsWithinLimits (procedure_of first.now ∷ procedure_of second.now ∷ [])) }
+{
+    if first.name.as_bytes() == b"init".as_slice() {
+        let pair = compile_pair(alloc, first, second)?;
+        let layout = make_layout(alloc, &pair.init_frame, &pair.again_frame)?;
+        Ok(Compiled {
+            code: pair.code,
+            layout,
+        })
+    } else {
+        let pair = compile_pair(alloc, second, first)?;
+        let layout = make_layout(alloc, &pair.again_frame, &pair.init_frame)?;
+        Ok(Compiled {
+            code: pair.code,
+            layout,
+        })
+    }
+}
+
+// The code of a program, and the frames of its functions.
+#[derive(Drop)]
+struct Pair {
+    code: Vec<SmallInstr>,
+    init_frame: Frame,
+    again_frame: Frame,
+}
+
+// `init` and `loop`, whichever stands first in the text.
+fn compile_pair(alloc: Global, init: &Function, again: &Function) -> Result<Pair, CompileError>
+    requires { IsSmallPair (procedure_of init.now) (procedure_of again.now) }
+    ensures code { IfOk result (λ pair. pair.code.items ≡ pair_code (procedure_of init.now) (procedure_of again.now)) }
+    ensures init_words { IfOk result (λ pair. pair.init_frame.words ≡ frame_words (procedure_of init.now)) }
+    ensures again_words { IfOk result (λ pair. pair.again_frame.words ≡ frame_words (procedure_of again.now)) }
+    ensures init_fits { IfOk result (λ pair. pair.init_frame.words ≤ most_frame) }
+    ensures again_fits { IfOk result (λ pair. pair.again_frame.words ≤ most_frame) }
     ensures within { OnOk result (IsWithinLimits (procedure_of init.now ∷ procedure_of again.now ∷ [])) }
-    ensures rules { OnOk result (KeepsRules (procedure_of init.now ∷ procedure_of again.now ∷ [])) }
     ensures over { IsErrOf result CompileError.OverLimit → ¬ (IsWithinLimits (procedure_of init.now ∷ procedure_of again.now ∷ [])) }
 {
     if !is_code_within(init, again) {
@@ -91,6 +119,9 @@ fn compile_functions(
     let again_frame = Frame::of(alloc, again)?;
     let mut code = Vec::new(alloc);
     emit_program(&mut code, init, &init_frame, again, &again_frame)?;
-    let layout = make_layout(alloc, &init_frame, &again_frame)?;
-    Ok(Compiled { code, layout })
+    Ok(Pair {
+        code,
+        init_frame,
+        again_frame,
+    })
 }

@@ -4,7 +4,7 @@ ghost use Rattle.lb_syntax.specs.Tree.{Interacts, term_of, command_of, block_of,
 ghost use Rattle.lb_syntax.specs.Needs.{depth, greatest_depth, most_frame, term_words, words, most_words};
 ghost use Rattle.lb_syntax.specs.Small.{IsSmallTerm, IsSmallCommand, IsSmallBlock};
 ghost use Rattle.lb_small_code.specs.Slots.{slot_names, frame_words};
-ghost use Rattle.lb_small_code.specs.Code.{immediate, minus, slot_offset, term_code, choice_code, loop_code, command_code, frame_code, program_code};
+ghost use Rattle.lb_small_code.specs.Code.{immediate, minus, slot_offset, term_code, choice_code, loop_code, command_code, frame_code, pair_code};
 
 use crate::frame::Frame;
 use crate::slots::Slots;
@@ -34,7 +34,7 @@ pub fn emit_program(
     requires again_words { again_frame.now.words ≡ frame_words (procedure_of again.now) }
     requires again_fits { 4 * (frame_words (procedure_of again.now) + 34) ≤ most_frame }
     requires room { 5 + words (block_of init.now.body) + words (block_of again.now.body) ≤ most_words }
-    ensures { OnOk result (code.new.items ≡ program_code (procedure_of init.now ∷ procedure_of again.now ∷ [])) }
+    ensures { OnOk result (code.new.items ≡ pair_code (procedure_of init.now) (procedure_of again.now)) }
 {
     emit_frame(code, init_frame)?;
     emit_block(code, &init_frame.slots, &init.body)?;

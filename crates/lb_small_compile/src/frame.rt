@@ -44,16 +44,16 @@ impl Frame {
     }
 }
 
-/// The frames of `init` and `loop`.
-pub fn make_layout(alloc: Global, init: &Frame, again: &Frame) -> Result<Layout, AllocError>
-    requires init { init.now.words ≤ most_frame }
-    requires again { again.now.words ≤ most_frame }
+/// The frames of two functions, in the order of the text.
+pub fn make_layout(alloc: Global, first: &Frame, second: &Frame) -> Result<Layout, AllocError>
+    requires first { first.now.words ≤ most_frame }
+    requires second { second.now.words ≤ most_frame }
     ensures { IfOk result (λ layout. layout.frames
-        ≡ record { size = 4 * init.now.words; sites = [] } ∷ record { size = 4 * again.now.words; sites = [] } ∷ []) }
+        ≡ record { size = 4 * first.now.words; sites = [] } ∷ record { size = 4 * second.now.words; sites = [] } ∷ []) }
 {
     let mut frames = Items::new(alloc);
-    frames.push(frame_layout(alloc, init))?;
-    frames.push(frame_layout(alloc, again))?;
+    frames.push(frame_layout(alloc, first))?;
+    frames.push(frame_layout(alloc, second))?;
     Ok(Layout { frames })
 }
 

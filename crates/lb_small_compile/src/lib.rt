@@ -7,7 +7,9 @@ mod error;
 mod frame;
 mod needs;
 mod slots;
+mod small;
 mod terms;
 
 pub use compiler::{Compiled, compile};
 pub use error::CompileError;
+pub use small::is_small;

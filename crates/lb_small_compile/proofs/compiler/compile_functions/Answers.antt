@@ -1,69 +1,12 @@
-use Rattle.std.proofs.Common.{[], ◌∷◌}
 use Rattle.std.proofs.lemmas.Result.{err_from_is_err_and}
 use Rattle.lb_syntax.specs.Tree.{procedure_of}
-use Rattle.lb_small_code.proofs.TheoremLemmas.{code_follows, code_reaches, code_is_within_need, code_is_in_range}
-use Rattle.lb_small_compile.proofs.LimitLemmas.{layout_fits, within_limits, first_jump_over, second_jump_over, first_frame_over, second_frame_over}
-use Rattle.lb_small_compile.proofs.SmallRules.{keeps_rules}
+use Rattle.lb_small_code.proofs.TheoremLemmas.{within-swap}
 use Rattle.lb_small_compile.proofs.compiler.compile_functions.Goals as goal
 
-pub returns-then-not-are_jumps_within-clause-over : goal.returns-then-not-are_jumps_within-clause-over
-returns-then-not-are_jumps_within-clause-over c =
-    λ e w. first_jump_over (procedure_of c.args.init.now) (procedure_of c.args.again.now) (c.are_jumps_within.ensures.over c.if-not-are_jumps_within.true) w
+pub returns-in_err-pair-2-clause-over : goal.returns-in_err-pair-2-clause-over
+returns-in_err-pair-2-clause-over c =
+    let p = err_from_is_err_and c.from_residual-in_err-pair-2.result c.from_residual-in_err-pair-2.ensures.1 in
+    rw (p.1, p.2) (λ e w. c.in_err-pair-2.ensures.over (cc) (within-swap (procedure_of c.args.first.now) (procedure_of c.args.second.now) w))
 
-pub returns-then-not-are_jumps_within-2-clause-over : goal.returns-then-not-are_jumps_within-2-clause-over
-returns-then-not-are_jumps_within-2-clause-over c =
-    λ e w. second_jump_over (procedure_of c.args.init.now) (procedure_of c.args.again.now) (c.are_jumps_within-2.ensures.over c.if-not-are_jumps_within-2.true) w
-
-pub returns-in_err-init_frame-clause-over : goal.returns-in_err-init_frame-clause-over
-returns-in_err-init_frame-clause-over c =
-    let p = err_from_is_err_and c.from_residual.result c.from_residual.ensures.1 in
-    rw (p.1, p.2) (λ e w. first_frame_over (procedure_of c.args.init.now) (procedure_of c.args.again.now) (c.in_err-init_frame.ensures.over (cc)) w)
-
-pub returns-in_err-again_frame-clause-over : goal.returns-in_err-again_frame-clause-over
-returns-in_err-again_frame-clause-over c =
-    let p = err_from_is_err_and c.from_residual-in_err-again_frame.result c.from_residual-in_err-again_frame.ensures.1 in
-    rw (p.1, p.2) (λ e w. second_frame_over (procedure_of c.args.init.now) (procedure_of c.args.again.now) (c.in_err-again_frame.ensures.over (cc)) w)
-
-pub returns-clause-words : goal.returns-clause-words
-returns-clause-words c = rw c.in_ok-emit_program.ensures (code_is_within_need (procedure_of c.args.init.now ∷ procedure_of c.args.again.now ∷ []) (c.requires.init, c.requires.again))
-
-pub returns-clause-in_range : goal.returns-clause-in_range
-returns-clause-in_range c =
-    let f = procedure_of c.args.init.now in
-    let g = procedure_of c.args.again.now in
-    let limits = within_limits f g (c.is_code_within.ensures.within c.if-not-is_code_within.false) (c.are_jumps_within.ensures.within c.if-not-are_jumps_within.false) (c.are_jumps_within-2.ensures.within c.if-not-are_jumps_within-2.false) c.in_ok-init_frame.ensures.within c.in_ok-again_frame.ensures.within in
-    rw c.in_ok-emit_program.ensures (code_is_in_range (f ∷ g ∷ []) (c.requires.init, c.requires.again) limits)
-
-pub returns-clause-runs : goal.returns-clause-runs
-returns-clause-runs c =
-    let f = procedure_of c.args.init.now in
-    let g = procedure_of c.args.again.now in
-    let limits = within_limits f g (c.is_code_within.ensures.within c.if-not-is_code_within.false) (c.are_jumps_within.ensures.within c.if-not-are_jumps_within.false) (c.are_jumps_within-2.ensures.within c.if-not-are_jumps_within-2.false) c.in_ok-init_frame.ensures.within c.in_ok-again_frame.ensures.within in
-    let valid = layout_fits c.in_ok-layout.layout f g c.in_ok-init_frame.init_frame.words c.in_ok-again_frame.again_frame.words (c.requires.init, c.requires.again)
-    c.in_ok-init_frame.ensures.words c.in_ok-again_frame.ensures.words c.in_ok-layout.ensures in
-    rw c.in_ok-emit_program.ensures (
-      code_follows (f ∷ g ∷ []) c.in_ok-layout.layout (c.requires.init, c.requires.again) limits valid,
-      code_reaches (f ∷ g ∷ []) c.in_ok-layout.layout (c.requires.init, c.requires.again) limits valid,
-    )
-
-pub returns-clause-layout : goal.returns-clause-layout
-returns-clause-layout c =
-    let f = procedure_of c.args.init.now in
-    let g = procedure_of c.args.again.now in
-    let valid = layout_fits c.in_ok-layout.layout f g c.in_ok-init_frame.init_frame.words c.in_ok-again_frame.again_frame.words (c.requires.init, c.requires.again)
-    c.in_ok-init_frame.ensures.words c.in_ok-again_frame.ensures.words c.in_ok-layout.ensures in
-    valid
-
-pub returns-clause-within : goal.returns-clause-within
-returns-clause-within c =
-    let f = procedure_of c.args.init.now in
-    let g = procedure_of c.args.again.now in
-    let limits = within_limits f g (c.is_code_within.ensures.within c.if-not-is_code_within.false) (c.are_jumps_within.ensures.within c.if-not-are_jumps_within.false) (c.are_jumps_within-2.ensures.within c.if-not-are_jumps_within-2.false) c.in_ok-init_frame.ensures.within c.in_ok-again_frame.ensures.within in
-    limits
-
-pub returns-clause-rules : goal.returns-clause-rules
-returns-clause-rules c =
-    let f = procedure_of c.args.init.now in
-    let g = procedure_of c.args.again.now in
-    let limits = within_limits f g (c.is_code_within.ensures.within c.if-not-is_code_within.false) (c.are_jumps_within.ensures.within c.if-not-are_jumps_within.false) (c.are_jumps_within-2.ensures.within c.if-not-are_jumps_within-2.false) c.in_ok-init_frame.ensures.within c.in_ok-again_frame.ensures.within in
-    keeps_rules (f ∷ g ∷ []) (c.requires.init, c.requires.again) limits
+pub returns-in_ok-layout-2-clause-within : goal.returns-in_ok-layout-2-clause-within
+returns-in_ok-layout-2-clause-within c = within-swap (procedure_of c.args.second.now) (procedure_of c.args.first.now) c.in_ok-pair-2.ensures.within
