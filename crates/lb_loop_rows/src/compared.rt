@@ -97,7 +97,7 @@ const ROWS: [Row<'static>; 10] = [
 fn does_what_the_source_does(rt: HostRuntime) -> Result<(), Fail> {
     for row in &ROWS {
         let a = call_plain(rt.alloc(), &whole(row.words, row.input.as_bytes()))?;
-        assert_eq!(rt; a.ended.status, 0, "of {}", row.input);
+        assert_eq!(rt; a.status, 0, "of {}", row.input);
         let source = source_run(rt.alloc(), row.input.as_bytes(), 4000, row.replies)?;
         let source = source.ok_or("not built")?;
         assert_eq!(rt; source.end, row.end, "of {}", row.input);
@@ -109,7 +109,7 @@ fn does_what_the_source_does(rt: HostRuntime) -> Result<(), Fail> {
         );
         let lines = print_trace(rt.alloc(), source.trace.as_slice())?;
         assert!(rt;
-            event_lines(a.sink.held(), row.events) == lines.as_slice(),
+            event_lines(a.written.as_slice(), row.events) == lines.as_slice(),
             "of {}",
             row.input
         );

@@ -30,11 +30,7 @@ fn nested(alloc: Global, brackets: usize) -> Result<Vec<u8>, AllocError> {
 }
 
 fn status(alloc: Global, text: &[u8]) -> Result<u8, AllocError> {
-    Ok(
-        call_plain(alloc, &whole(&["bulb", "run", "1000"], text))?
-            .ended
-            .status,
-    )
+    Ok(call_plain(alloc, &whole(&["bulb", "run", "1000"], text))?.status)
 }
 
 // The loop asks for 4 * (6 + 14 + 125 * 8) = 4,080 bytes, and 8 words more are 32 bytes more.
@@ -43,7 +39,7 @@ fn builds_branches_over_4080_bytes(rt: HostRuntime) -> Result<(), Fail> {
     let text = long_loop(rt.alloc(), 125)?;
     assert_eq!(rt; status(rt.alloc(), &text)?, 0);
     let past = long_loop(rt.alloc(), 126)?;
-    assert_eq!(rt; status(rt.alloc(), &past)?, 10);
+    assert_eq!(rt; status(rt.alloc(), &past)?, 4);
     Ok(())
 }
 
@@ -51,9 +47,11 @@ fn builds_branches_over_4080_bytes(rt: HostRuntime) -> Result<(), Fail> {
 fn builds_texts_with_64_open_brackets(rt: HostRuntime) -> Result<(), Fail> {
     let text = nested(rt.alloc(), 63)?;
     let a = call_plain(rt.alloc(), &whole(&["bulb", "run", "1000"], &text))?;
-    assert_eq!(rt; a.ended.status, 0);
-    assert!(rt; a.sink.held() == b"mmio 1\nend running\ntrace\nst 1001200c 00000040\n".as_slice());
+    assert_eq!(rt; a.status, 0);
+    assert!(rt;
+        a.written.as_slice() == b"mmio 1\nend running\ntrace\nst 1001200c 00000040\n".as_slice()
+    );
     let past = nested(rt.alloc(), 64)?;
-    assert_eq!(rt; status(rt.alloc(), &past)?, 10);
+    assert_eq!(rt; status(rt.alloc(), &past)?, 2);
     Ok(())
 }

@@ -36,9 +36,9 @@ fn reports_operations_and_loops(rt: HostRuntime) -> Result<(), Fail> {
     ];
     for row in &rows {
         let a = call_plain(rt.alloc(), &whole(row.words, row.input.as_bytes()))?;
-        assert_eq!(rt; a.ended.status, 0, "of {}", row.input);
+        assert_eq!(rt; a.status, 0, "of {}", row.input);
         assert!(rt;
-            a.sink.held() == row.report.as_bytes(),
+            a.written.as_slice() == row.report.as_bytes(),
             "the report of {}",
             row.input
         );

@@ -91,8 +91,8 @@ fn computes_each_operation(rt: HostRuntime) -> Result<(), Fail> {
         for literals in [true, false] {
             let text = program(rt.alloc(), sign, literals)?;
             let a = call_plain(rt.alloc(), &whole(&["bulb", "run", "1000"], &text))?;
-            assert_eq!(rt; a.ended.status, 0, "of {sign}");
-            assert!(rt; a.sink.held() == want.as_slice(), "of {sign}");
+            assert_eq!(rt; a.status, 0, "of {sign}");
+            assert!(rt; a.written.as_slice() == want.as_slice(), "of {sign}");
         }
     }
     Ok(())

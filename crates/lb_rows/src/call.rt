@@ -28,24 +28,79 @@ pub fn whole<'a>(words: &'a [&'a str], input: &'a [u8]) -> Call<'a> {
     }
 }
 
-/// How the call ended, and what the sink holds.
+/// How the call ended.
 #[derive(Drop)]
 pub struct Answer {
-    pub ended: Ended,
-    pub sink: MemorySink,
+    pub status: u8,
+    /// What the sink holds.
+    pub written: Vec<u8>,
+    /// Whether code was run.
+    pub has_code: bool,
+    /// The sizes of the code's frames.
+    pub frames: Vec<u32>,
 }
 
 /// Makes the call.
 pub fn call_plain(alloc: Global, call: &Call<'_>) -> Result<Answer, AllocError> {
-    let mut words = Vec::new(alloc);
-    for word in call.words {
-        words.push(String::from_str(alloc, word)?)?;
+    let words = words_of(alloc, call.words)?;
+    let mut input = source_of(alloc, call)?;
+    let mut sink = sink_of(alloc, call)?;
+    let end = end_of(alloc, &words, &mut input, &mut sink)?;
+    let written = Vec::from_slice(alloc, sink.held())?;
+    Ok(Answer {
+        status: end.status,
+        written,
+        has_code: end.has_code,
+        frames: end.frames,
+    })
+}
+
+// The words as the program gets them.
+fn words_of(alloc: Global, words: &[&str]) -> Result<Vec<String>, AllocError> {
+    let mut owned = Vec::new(alloc);
+    for word in words {
+        owned.push(String::from_str(alloc, word)?)?;
     }
-    let piece = call.piece.max(1);
+    Ok(owned)
+}
+
+fn source_of(alloc: Global, call: &Call<'_>) -> Result<MemorySource, AllocError> {
     let bytes = Vec::from_slice(alloc, call.input)?;
-    let mut input = MemorySource::new(bytes, piece, Vec::from_slice(alloc, call.read_fails)?);
+    let fails = Vec::from_slice(alloc, call.read_fails)?;
+    Ok(MemorySource::new(bytes, call.piece.max(1), fails))
+}
+
+fn sink_of(alloc: Global, call: &Call<'_>) -> Result<MemorySink, AllocError> {
     let fails = Vec::from_slice(alloc, call.write_fails)?;
-    let mut sink = MemorySink::new(alloc, call.room, piece, fails)?;
-    let ended = plain(alloc, &words, &mut input, &mut sink);
-    Ok(Answer { ended, sink })
+    MemorySink::new(alloc, call.room, call.piece.max(1), fails)
+}
+
+// What is kept of how a call ended.
+#[derive(Drop)]
+struct End {
+    status: u8,
+    has_code: bool,
+    frames: Vec<u32>,
+}
+
+fn end_of(
+    alloc: Global,
+    words: &[String],
+    input: &mut MemorySource,
+    sink: &mut MemorySink,
+) -> Result<End, AllocError> {
+    let ended = plain(alloc, words, input, sink);
+    kept(alloc, &ended)
+}
+
+fn kept(alloc: Global, ended: &Ended) -> Result<End, AllocError> {
+    let mut frames = Vec::new(alloc);
+    for frame in ended.layout.frames.as_slice() {
+        frames.push(frame.size)?;
+    }
+    Ok(End {
+        status: ended.status,
+        has_code: !ended.code.is_empty(),
+        frames,
+    })
 }

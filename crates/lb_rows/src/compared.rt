@@ -65,7 +65,7 @@ fn does_what_the_source_does(rt: HostRuntime) -> Result<(), Fail> {
     ];
     for row in &rows {
         let a = call_plain(rt.alloc(), &whole(row.words, row.input.as_bytes()))?;
-        assert_eq!(rt; a.ended.status, 0, "of {}", row.input);
+        assert_eq!(rt; a.status, 0, "of {}", row.input);
         let source = source_run(rt.alloc(), row.input.as_bytes(), 1000, row.replies)?;
         let source = source.ok_or("not built")?;
         assert_eq!(rt; source.end, row.end, "of {}", row.input);
@@ -77,7 +77,7 @@ fn does_what_the_source_does(rt: HostRuntime) -> Result<(), Fail> {
         );
         let lines = print_trace(rt.alloc(), source.trace.as_slice())?;
         assert!(rt;
-            event_lines(a.sink.held(), row.events) == lines.as_slice(),
+            event_lines(a.written.as_slice(), row.events) == lines.as_slice(),
             "of {}",
             row.input
         );
@@ -96,9 +96,9 @@ fn writes_for_ever(rt: HostRuntime) -> Result<(), Fail> {
     let source = source.ok_or("not built")?;
     // Two starts of two instructions each; then seven and a jump for each write: 124 writes in 992 instructions.
     let lines = print_trace(rt.alloc(), source.trace.as_slice())?;
-    let written = event_lines(a.sink.held(), 124);
+    let written = event_lines(a.written.as_slice(), 124);
     assert_eq!(rt; source.trace.as_slice().len(), 999);
     assert!(rt; lines.starts_with(written));
-    assert!(rt; a.sink.held().starts_with(b"mmio 124\nend running\n"));
+    assert!(rt; a.written.starts_with(b"mmio 124\nend running\n"));
     Ok(())
 }

@@ -1,6 +1,5 @@
 // The first rows: a program, its replies and its report; and each status with its line.
 use crate::call::{call_plain, whole};
-use lb_system::Fault;
 use std::test::Fail;
 
 const READS: &str =
@@ -8,7 +7,7 @@ const READS: &str =
 
 const EMPTY: &str = "fn init() {\n}\nfn loop() {\n}\n";
 
-const USAGE: &str = "usage: bulb run N REPLY...\n";
+const USAGE: &str = "usage: bulb MODE [--events N] [--workers W] [--seed S] [--log] [--trace]\n";
 
 // Words, an input, the status and what is written.
 #[derive(Drop)]
@@ -16,7 +15,6 @@ struct Row<'a> {
     words: &'a [&'a str],
     input: &'a str,
     status: u8,
-    fault: Option<Fault>,
     written: &'a str,
 }
 
@@ -25,7 +23,6 @@ fn done<'a>(words: &'a [&'a str], input: &'a str, written: &'a str) -> Row<'a> {
         words,
         input,
         status: 0,
-        fault: None,
         written,
     }
 }
@@ -35,19 +32,21 @@ fn usage<'a>(words: &'a [&'a str]) -> Row<'a> {
         words,
         input: EMPTY,
         status: 1,
-        fault: Some(Fault::Usage),
         written: USAGE,
     }
 }
 
-fn not_built(input: &str) -> Row<'_> {
+fn refused<'a>(input: &'a str, status: u8, written: &'a str) -> Row<'a> {
     Row {
         words: &["bulb", "run", "1000"],
         input,
-        status: 10,
-        fault: Some(Fault::Unbuilt),
-        written: "not built\n",
+        status,
+        written,
     }
+}
+
+fn not_built(input: &str) -> Row<'_> {
+    refused(input, 10, "not built\n")
 }
 
 #[test]
@@ -86,15 +85,14 @@ fn reports_runs(rt: HostRuntime) -> Result<(), Fail> {
     ];
     for row in &rows {
         let a = call_plain(rt.alloc(), &whole(row.words, row.input.as_bytes()))?;
-        assert_eq!(rt; a.ended.status, row.status, "of {}", row.input);
-        assert_eq!(rt; a.ended.fault, row.fault, "of {}", row.input);
+        assert_eq!(rt; a.status, row.status, "of {}", row.input);
         assert!(rt;
-            a.sink.held() == row.written.as_bytes(),
+            a.written.as_slice() == row.written.as_bytes(),
             "written for {}",
             row.input
         );
-        assert!(rt; !a.ended.code.is_empty());
-        assert_eq!(rt; a.ended.layout.frames.len(), 2);
+        assert!(rt; a.has_code);
+        assert_eq!(rt; a.frames.len(), 2);
     }
     Ok(())
 }
@@ -105,7 +103,6 @@ fn refuses_words_and_texts(rt: HostRuntime) -> Result<(), Fail> {
         usage(&[]),
         usage(&["bulb"]),
         usage(&["bulb", "run"]),
-        usage(&["bulb", "check"]),
         usage(&["bulb", "run", "0"]),
         usage(&["bulb", "run", "01"]),
         usage(&["bulb", "run", "+1"]),
@@ -119,44 +116,38 @@ fn refuses_words_and_texts(rt: HostRuntime) -> Result<(), Fail> {
         usage(&["bulb", "run", "1", "0000000g"]),
         usage(&["bulb", "run", "1", "00000000", ""]),
         usage(&["bulb", "run", "run", "1"]),
-        not_built("fn init() {\n"),
-        not_built(""),
-        not_built("fn init() {\n}\nfn loop() {\n}\n\n"),
-        not_built("fn init() {\n}\nfn loop() {\n}"),
-        not_built("fn init() { }\nfn loop() {\n}\n"),
-        not_built("fn loop() {\n}\nfn init() {\n}\n"),
-        not_built("fn init() {\n  x = 01;\n}\nfn loop() {\n}\n"),
-        not_built("fn init() {\n  x = 0x1;\n}\nfn loop() {\n}\n"),
-        not_built("fn init() {\n  fn = 1;\n}\nfn loop() {\n}\n"),
-        not_built("fn init() {\n x = 1;\n}\nfn loop() {\n}\n"),
-        not_built("fn init() {\n  x = 1 ;\n}\nfn loop() {\n}\n"),
+        refused("fn init() {\n", 2, "text at 12 ended\n"),
+        refused("", 3, "check no-init\n"),
+        refused(
+            "fn init() {\n  fn = 1;\n}\nfn loop() {\n}\n",
+            2,
+            "text at 16 unexpected\n",
+        ),
+        refused(
+            "fn init() {\n  x = 1 + 2;\n}\nfn loop() {\n}\n",
+            2,
+            "text at 20 unexpected\n",
+        ),
+        refused(
+            "fn init() {\n  if = 3;\n}\nfn loop() {\n}\n",
+            2,
+            "text at 17 unexpected\n",
+        ),
         not_built("fn init() {\n  x = load4(0);\n}\nfn loop() {\n}\n"),
         not_built("fn init() {\n  store4(4096, 1);\n}\nfn loop() {\n}\n"),
         not_built("fn init() {\n  stackalloc 4 as x {\n  }\n}\nfn loop() {\n}\n"),
         not_built("fn init() {\n  loop();\n}\nfn loop() {\n}\n"),
         not_built("fn init() {\n}\nfn loop() {\n}\nfn f() {\n}\n"),
-        not_built("fn init() {\n  if 1 {\n  } else {\n  }\n}\nfn loop() {\n}\n"),
-        not_built("fn init() {\n  if 1 {\n  skip;\n  }\n}\nfn loop() {\n}\n"),
-        not_built("fn init() {\n  x = 1 + 2;\n}\nfn loop() {\n}\n"),
-        not_built("fn init() {\n  x = (1 +  2);\n}\nfn loop() {\n}\n"),
-        not_built("fn init() {\n  if = 3;\n}\nfn loop() {\n}\n"),
-        not_built("fn init() {\r\n}\r\nfn loop() {\r\n}\r\n"),
     ];
     for row in &rows {
         let a = call_plain(rt.alloc(), &whole(row.words, row.input.as_bytes()))?;
-        assert_eq!(rt;
-            a.ended.status,
-            row.status,
-            "of {} {:?}",
-            row.input, row.words
-        );
-        assert_eq!(rt; a.ended.fault, row.fault, "of {}", row.input);
+        assert_eq!(rt; a.status, row.status, "of {} {:?}", row.input, row.words);
         assert!(rt;
-            a.sink.held() == row.written.as_bytes(),
+            a.written.as_slice() == row.written.as_bytes(),
             "written for {}",
             row.input
         );
-        assert!(rt; a.ended.code.is_empty());
+        assert!(rt; !a.has_code);
     }
     Ok(())
 }

@@ -1,6 +1,5 @@
 // Reading and writing in pieces, and failing in the middle.
 use crate::call::{Call, call_plain, whole};
-use lb_system::Fault;
 use std::test::Fail;
 
 const READS: &[u8] =
@@ -17,8 +16,8 @@ fn reads_and_writes_bytes_singly(rt: HostRuntime) -> Result<(), Fail> {
         ..whole(&WORDS, READS)
     };
     let a = call_plain(rt.alloc(), &call)?;
-    assert_eq!(rt; a.ended.status, 0);
-    assert!(rt; a.sink.held() == REPORT);
+    assert_eq!(rt; a.status, 0);
+    assert!(rt; a.written.as_slice() == REPORT);
     Ok(())
 }
 
@@ -31,9 +30,8 @@ fn tells_a_read_that_fails(rt: HostRuntime) -> Result<(), Fail> {
             ..whole(&WORDS, READS)
         };
         let a = call_plain(rt.alloc(), &call)?;
-        assert_eq!(rt; a.ended.status, 6, "at {fails}");
-        assert_eq!(rt; a.ended.fault, Some(Fault::Read));
-        assert!(rt; a.sink.held() == b"read fault\n".as_slice());
+        assert_eq!(rt; a.status, 6, "at {fails}");
+        assert!(rt; a.written.as_slice() == b"read fault\n".as_slice());
     }
     Ok(())
 }
@@ -45,8 +43,8 @@ fn keeps_the_status_where_the_line_is_cut(rt: HostRuntime) -> Result<(), Fail> {
         ..whole(&["bulb", "run"], READS)
     };
     let a = call_plain(rt.alloc(), &call)?;
-    assert_eq!(rt; a.ended.status, 1);
-    assert!(rt; a.sink.held() == b"usag".as_slice());
+    assert_eq!(rt; a.status, 1);
+    assert!(rt; a.written.as_slice() == b"usag".as_slice());
     Ok(())
 }
 
@@ -58,11 +56,10 @@ fn tells_a_write_that_fails(rt: HostRuntime) -> Result<(), Fail> {
             ..whole(&WORDS, READS)
         };
         let a = call_plain(rt.alloc(), &call)?;
-        assert_eq!(rt; a.ended.status, 7, "room {room}");
-        assert_eq!(rt; a.ended.fault, Some(Fault::Write));
-        assert_eq!(rt; a.sink.held().len(), written);
-        assert!(rt; REPORT.starts_with(a.sink.held()));
-        assert!(rt; !a.ended.code.is_empty());
+        assert_eq!(rt; a.status, 7, "room {room}");
+        assert_eq!(rt; a.written.len(), written);
+        assert!(rt; REPORT.starts_with(a.written.as_slice()));
+        assert!(rt; a.has_code);
     }
     let call = Call {
         piece: 10,
@@ -70,7 +67,7 @@ fn tells_a_write_that_fails(rt: HostRuntime) -> Result<(), Fail> {
         ..whole(&WORDS, READS)
     };
     let a = call_plain(rt.alloc(), &call)?;
-    assert_eq!(rt; a.ended.status, 7);
-    assert!(rt; a.sink.held() == b"mmio 1\nend wants-rep".as_slice());
+    assert_eq!(rt; a.status, 7);
+    assert!(rt; a.written.as_slice() == b"mmio 1\nend wants-rep".as_slice());
     Ok(())
 }

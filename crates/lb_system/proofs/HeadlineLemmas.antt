@@ -1,5 +1,5 @@
 -- The run that was asked for, as one of the runs of the code.
-use Rattle.std.proofs.Common.{◌≡◌, ℕ, zero, suc, ◌+◌, ◌^◌, ◌≤◌, ◌<◌, List, [], ◌∷◌, Option, Some, None, refl, sym, ap, ◌∙◌, subst, arith}
+use Rattle.std.proofs.Common.{◌≡◌, ℕ, zero, suc, ◌+◌, ◌^◌, ◌≤◌, ◌<◌, List, [], ◌∷◌, length, Option, Some, None, refl, sym, ap, ◌∙◌, subst, arith}
 use Rattle.std.proofs.lemmas.Int.Digits.{digits_value-lt}
 use Rattle.std.specs.Option.{option_map_or}
 use Rattle.std.specs.Str.Parse.{digits_value}
@@ -15,8 +15,9 @@ use Rattle.lb_small.specs.Runs.{Configuration, start, moves, isa, IsHalted}
 use Rattle.lb_small.proofs.RunLemmas.{moves-committed}
 use Rattle.lb_small_code.specs.Correct.{AreWords, Follows}
 use Rattle.lb_syntax.specs.Names.{Text}
-use Rattle.lb_system.specs.Request.{IsReply, AreReplies, IsRequest}
-use Rattle.lb_system.specs.Answers.{Known, IsBuilt}
+use Rattle.lb_spelling.specs.Places.{IsAccepted}
+use Rattle.lb_system.specs.Request.{Job, Checks, Prints, Runs, IsReply, AreReplies, IsRequest, AskToRun}
+use Rattle.lb_system.specs.Answers.{Known, IsTask, IsBuilt, IsMade, IsReport}
 use Rattle.lb_system.specs.Headline.{IsRunOf, RunsWhatWasRead}
 
 -- eight hexadecimal digits are a word
@@ -31,7 +32,7 @@ reply_words [] (v ∷ vs) h = absurd h
 reply_words (word ∷ words) [] h = absurd h
 reply_words (word ∷ words) (v ∷ vs) h = (reply_word word v h.0, reply_words words vs h.1)
 
-request_words : (words : List Text) (n : ℕ) (vs : List ℕ) → IsRequest words n vs → AreWords vs
+request_words : (words : List Text) (n : ℕ) (vs : List ℕ) → IsRequest words (Runs n vs) → AreWords vs
 request_words (program ∷ mode ∷ count ∷ replies) n vs h = reply_words replies vs h.2
 request_words _ n vs h = absurd h
 
@@ -61,10 +62,38 @@ run_of p layout code replies n h words defined =
       λ halted. h.runs replies k words defined (subst (IsHalted code) (sym same) halted),
     )
 
--- code that was built from what was read runs what was read
-pub built_runs : (old new : Known) (words : List Text) (code : List SmallInstr) (layout : Layout) → (p : List Procedure) × IsBuilt old new p code layout → RunsWhatWasRead old new words code layout
-built_runs old new words code layout b = record {
-  program = b.0;
-  built = b.1;
-  runs = λ n replies request. run_of b.0 layout code replies n b.1.follows (request_words words n replies request);
+-- `check` and `print` ask for no run
+no_run_check : (words : List Text) (n : ℕ) (vs : List ℕ) → IsRequest words Checks → IsRequest words (Runs n vs) → ⊥
+no_run_check (program ∷ []) n vs h r = r
+no_run_check (program ∷ mode ∷ []) n vs h r = r
+no_run_check (program ∷ mode ∷ count ∷ replies) n vs h r = absurd (omega (arith, ap length h))
+no_run_check [] n vs h r = h
+
+no_run_print : (words : List Text) (n : ℕ) (vs : List ℕ) → IsRequest words Prints → IsRequest words (Runs n vs) → ⊥
+no_run_print (program ∷ []) n vs h r = r
+no_run_print (program ∷ mode ∷ []) n vs h r = r
+no_run_print (program ∷ mode ∷ count ∷ replies) n vs h r = absurd (omega (arith, ap length h))
+no_run_print [] n vs h r = h
+
+built_runs : {p : List Procedure} {old new : Known} {words : List Text} {code : List SmallInstr} {layout : Layout} (job : Job) (text : Text)
+    → IsTask words old new job text → IsAccepted p text → IsBuilt p code layout → RunsWhatWasRead words old new code layout
+built_runs {p} {words = words} {code = code} {layout = layout} job text task accepted built = record {
+  text = text;
+  program = p;
+  read = task.read;
+  short = task.short;
+  accepted = accepted;
+  built = built;
+  runs = λ n replies request. run_of p layout code replies n built.follows (request_words words n replies request);
 }
+
+made_runs : (p : List Procedure) {old new : Known} {words : List Text} (code : List SmallInstr) (layout : Layout) (report : Text) (job : Job) (text : Text)
+    → IsTask words old new job text → IsAccepted p text → IsMade job p code layout report → AskToRun words → RunsWhatWasRead words old new code layout
+made_runs p {words = words} code layout report Checks text task accepted made ask = absurd (no_run_check words ask.0 ask.1 task.asked ask.2)
+made_runs p {words = words} code layout report Prints text task accepted made ask = absurd (no_run_print words ask.0 ask.1 task.asked ask.2)
+made_runs p code layout report (Runs n replies) text task accepted made ask = built_runs (Runs n replies) text task accepted made.0
+
+-- where a run was asked for, its report is that of a run of the program that was read
+pub report_runs : {words : List Text} {old new : Known} {code : List SmallInstr} {layout : Layout} {report : Text}
+    → IsReport words old new code layout report → AskToRun words → RunsWhatWasRead words old new code layout
+report_runs {code = code} {layout = layout} {report = report} r ask = made_runs r.program code layout report r.job r.text r.task r.accepted r.made ask

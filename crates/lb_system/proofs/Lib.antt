@@ -1,2 +1,5 @@
+pub mod AnswerLemmas
 pub mod HeadlineLemmas
+pub mod ReasonLemmas
 pub mod RequestLemmas
+pub mod SizeLemmas

@@ -7,7 +7,7 @@ use Rattle.std.proofs.lemmas.Int.Digits.{digits_value-lt}
 use Rattle.std.specs.Prelude.{decimal, codes}
 use Rattle.std.specs.Char.{digit_value}
 use Rattle.std.specs.Str.Parse.{AllDigits, digits_value, ParsesUnsigned, IsNumeral}
-use Rattle.lb_system.specs.Request.{IsStepCount, IsReply, AreReplies, IsRequest}
+use Rattle.lb_system.specs.Request.{IsStepCount, IsReply, AreReplies}
 use Rattle.lb_syntax.specs.Names.{Text}
 
 own : IsNumeralModel (AllDigits 10) (digits_value 10)
@@ -78,12 +78,3 @@ no_reply f [] i w lt is no_value vs h = absurd (omega arith)
 no_reply f (x ∷ words) i w lt is no_value [] h = h
 no_reply f (x ∷ words) zero w lt is no_value (v ∷ vs) h = no_value v (subst (λ y. IsReply (f y) v) (sym is) h.0)
 no_reply f (x ∷ words) (suc i) w lt is no_value (v ∷ vs) h = no_reply f words i w (omega arith) is no_value vs h.1
-
--- the words of a request
-pub requested : {W : Type 0} (f : W → Text) (words : List W) (mode count : W) (n : ℕ) (vs : List ℕ) → 3 ≤ length words → mode ≡ get_or words 1 mode → count ≡ get_or words 2 count
-    → f mode ≡ codes "run" → IsStepCount (f count) n → AreReplies (map f (drop 3 words)) vs → IsRequest (map f words) n vs
-requested f [] mode count n vs long is_mode is_count run steps replies = absurd (omega arith)
-requested f (x ∷ []) mode count n vs long is_mode is_count run steps replies = absurd (omega arith)
-requested f (x ∷ y ∷ []) mode count n vs long is_mode is_count run steps replies = absurd (omega arith)
-requested f (x ∷ y ∷ z ∷ words) mode count n vs long is_mode is_count run steps replies =
-    (ap f (sym is_mode) ∙ run, subst (λ w. IsStepCount (f w) n) is_count steps, replies)

@@ -1,22 +1,122 @@
 -- The status and the line of each fault.
-use Rattle.std.specs.Prelude.{ℕ, Option, Some, None, codes}
-use Rattle.lb_system.specs.declared.top.Fault.{Fault}
-use Rattle.lb_system.specs.declared.top.Fault.TheVariants.{Usage, Read, Unbuilt, Write, Memory}
+use Rattle.std.specs.Prelude.{ℕ, ◌++◌, Option, Some, None, codes, decimal}
 use Rattle.lb_syntax.specs.Names.{Text}
+use Rattle.lb_spelling.specs.declared.fault.TextKind.{TextKind}
+use Rattle.lb_spelling.specs.declared.fault.TextKind.TheVariants as kind
+use Rattle.lb_check.specs.declared.fault.CheckFault.{CheckFault}
+use Rattle.lb_check.specs.declared.fault.CheckFault.TheVariants as rule
+use Rattle.lb_system.specs.declared.fault.Fault.{Fault}
+use Rattle.lb_system.specs.declared.fault.Fault.TheVariants as fault
 
 -- the status that a call ends with
 abbrev pub status_of : Option Fault → ℕ
 status_of None = 0
-status_of (Some Usage) = 1
-status_of (Some Read) = 6
-status_of (Some Unbuilt) = 10
-status_of (Some Write) = 7
-status_of (Some Memory) = 9
+status_of (Some fault.Usage) = 1
+status_of (Some (fault.Text _)) = 2
+status_of (Some (fault.Check _)) = 3
+status_of (Some (fault.Limit _)) = 4
+status_of (Some fault.Read) = 6
+status_of (Some fault.Write) = 7
+status_of (Some fault.TooLong) = 8
+status_of (Some fault.Memory) = 9
+status_of (Some fault.Unbuilt) = 10
+
+-- the rule is one of the four on what a program may ask for
+abbrev pub IsLimit : CheckFault → Type 0
+IsLimit (rule.FrameNeed _ _) = Unit {0}
+IsLimit (rule.JumpNeed _ _) = Unit {0}
+IsLimit (rule.CodeNeed _) = Unit {0}
+IsLimit (rule.StackNeed _) = Unit {0}
+IsLimit _ = ⊥
+
+-- how a text leaves the grammar, in a word
+abbrev pub kind_text : TextKind → Text
+kind_text kind.Ended = codes "ended"
+kind_text kind.BadByte = codes "bad-byte"
+kind_text kind.TooDeep = codes "too-deep"
+kind_text kind.NumberTooWide = codes "number-too-wide"
+kind_text kind.NameTooLong = codes "name-too-long"
+kind_text kind.Unexpected = codes "unexpected"
+
+-- the rule that is broken, in a word
+abbrev pub rule_word : CheckFault → Text
+rule_word (rule.TooManyFunctions _) = codes "too-many-functions"
+rule_word (rule.DuplicateFunction _) = codes "duplicate-function"
+rule_word (rule.DuplicateName _ _) = codes "duplicate-name"
+rule_word rule.NoInit = codes "no-init"
+rule_word rule.NoLoop = codes "no-loop"
+rule_word (rule.EntryShape _) = codes "entry-shape"
+rule_word (rule.TooManyParams _ _) = codes "too-many-params"
+rule_word (rule.BadAllocSize _ _) = codes "bad-alloc-size"
+rule_word (rule.UnknownFunction _ _) = codes "unknown-function"
+rule_word (rule.WrongArity _ _) = codes "wrong-arity"
+rule_word (rule.DuplicateTarget _ _) = codes "duplicate-target"
+rule_word (rule.BadIo _) = codes "bad-io"
+rule_word (rule.Recursion _) = codes "recursion"
+rule_word (rule.FrameNeed _ _) = codes "frame-need"
+rule_word (rule.JumpNeed _ _) = codes "jump-need"
+rule_word (rule.CodeNeed _) = codes "code-need"
+rule_word (rule.StackNeed _) = codes "stack-need"
+
+-- the function in which a rule is broken
+abbrev pub function_part : Text → Text
+function_part function = codes " function " ++ function
+
+-- the name that breaks it
+abbrev pub name_part : Text → Text
+name_part name = codes " name " ++ name
+
+-- a number of bytes
+abbrev pub bytes_part : ℕ → Text
+bytes_part n = codes " bytes " ++ decimal n
+
+-- how many there are of what is counted
+abbrev pub count_part : ℕ → Text
+count_part n = codes " count " ++ decimal n
+
+-- a number of words
+abbrev pub words_part : ℕ → Text
+words_part n = codes " words " ++ decimal n
+
+-- where a rule is broken and by how much
+abbrev pub rule_place : CheckFault → Text
+rule_place (rule.TooManyFunctions count) = count_part count
+rule_place (rule.DuplicateFunction function) = function_part function
+rule_place (rule.DuplicateName function name) = function_part function ++ name_part name
+rule_place rule.NoInit = codes ""
+rule_place rule.NoLoop = codes ""
+rule_place (rule.EntryShape function) = function_part function
+rule_place (rule.TooManyParams function count) = function_part function ++ count_part count
+rule_place (rule.BadAllocSize function bytes) = function_part function ++ bytes_part bytes
+rule_place (rule.UnknownFunction function name) = function_part function ++ name_part name
+rule_place (rule.WrongArity function name) = function_part function ++ name_part name
+rule_place (rule.DuplicateTarget function name) = function_part function ++ name_part name
+rule_place (rule.BadIo function) = function_part function
+rule_place (rule.Recursion function) = function_part function
+rule_place (rule.FrameNeed function bytes) = function_part function ++ bytes_part bytes
+rule_place (rule.JumpNeed function bytes) = function_part function ++ bytes_part bytes
+rule_place (rule.CodeNeed words) = words_part words
+rule_place (rule.StackNeed bytes) = bytes_part bytes
+
+-- a broken rule: its word, and where
+abbrev pub rule_text : CheckFault → Text
+rule_text f = rule_word f ++ rule_place f
 
 -- the line that is written in place of a report; a write that was refused has none
 abbrev pub fault_line : Fault → Text
-fault_line Usage = codes "usage: bulb run N REPLY...\n"
-fault_line Read = codes "read fault\n"
-fault_line Unbuilt = codes "not built\n"
-fault_line Write = codes ""
-fault_line Memory = codes "memory\n"
+fault_line fault.Usage = codes "usage: bulb MODE [--events N] [--workers W] [--seed S] [--log] [--trace]\n"
+fault_line (fault.Text f) = codes "text at " ++ (decimal f.at ++ (codes " " ++ (kind_text f.kind ++ codes "\n")))
+fault_line (fault.Check f) = codes "check " ++ (rule_text f ++ codes "\n")
+fault_line (fault.Limit f) = codes "limit " ++ (rule_text f ++ codes "\n")
+fault_line fault.Read = codes "read fault\n"
+fault_line fault.Write = codes ""
+fault_line fault.TooLong = codes "input over 1048576 bytes\n"
+fault_line fault.Memory = codes "memory\n"
+fault_line fault.Unbuilt = codes "not built\n"
+
+-- the line isn't the same at all times, so it takes memory to make it
+abbrev pub TakesMemory : Fault → Type 0
+TakesMemory (fault.Text _) = Unit {0}
+TakesMemory (fault.Check _) = Unit {0}
+TakesMemory (fault.Limit _) = Unit {0}
+TakesMemory _ = ⊥

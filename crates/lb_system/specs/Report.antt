@@ -1,14 +1,21 @@
--- The report of a run.
+-- The reports of the modes.
 use Rattle.std.specs.Prelude.{ℕ, List, ◌++◌, length, codes, decimal}
 use Rattle.lb_trace.specs.TraceText.{trace_text}
+use Rattle.lb_trace.specs.declared.Event.{Event}
+use Rattle.lb_syntax.specs.Names.{Text}
+use Rattle.lb_syntax.specs.Tree.{Procedure}
+use Rattle.lb_syntax.specs.Needs.{code_need}
 use Rattle.lb_small.specs.declared.instr.SmallInstr.{SmallInstr}
 use Rattle.lb_small.specs.declared.instr.Cause.{Cause}
 use Rattle.lb_small.specs.declared.instr.Cause.TheVariants.{BadPc, UnknownWord, Ecall, Ebreak, StoreToCode, BadAccess}
 use Rattle.lb_small.specs.declared.runner.Ending.{Ending}
 use Rattle.lb_small.specs.declared.runner.Ending.TheVariants.{Running, WantsReply, Halted}
 use Rattle.lb_small.specs.Runs.{isa, isa_ending}
-use Rattle.lb_trace.specs.declared.Event.{Event}
-use Rattle.lb_syntax.specs.Names.{Text}
+
+-- the line `ok functions F words W stack S`, of a program that asks for this many bytes of stack
+abbrev pub check_report : List Procedure → ℕ → Text
+check_report p stack =
+    codes "ok functions " ++ (decimal (length p) ++ (codes " words " ++ (decimal (code_need p) ++ (codes " stack " ++ (decimal stack ++ codes "\n")))))
 
 -- the word of a cause
 abbrev pub cause_text : Cause → Text

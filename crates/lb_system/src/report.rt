@@ -1,13 +1,28 @@
-// The report of a run.
-ghost use Rattle.std.specs.Prelude.{◌≡◌, ◌≤◌, ◌++◌, length, IfOk, OnOk};
+// The reports of the modes that don't print the program.
+ghost use Rattle.std.specs.Prelude.{◌≡◌, ◌≤◌, ◌++◌, ℕ, length, IfOk, OnOk};
+ghost use Rattle.lb_syntax.specs.Tree.{program_of};
+ghost use Rattle.lb_system.specs.Answers.{IsCheckReport};
 ghost use Rattle.lb_system.specs.Report.{run_report, report_text, ending_text, cause_text};
 
+use lb_check::Checked;
 use lb_small::{Cause, Ending, SmallInstr, run};
 use lb_trace::append_trace;
 use std::alloc::{AllocError, Global};
 
+/// The line of a program that keeps the rules: how many functions it has, and what it asks for.
+pub fn check_report(alloc: Global, checked: &Checked) -> Result<Vec<u8>, AllocError>
+    ensures { IfOk result (λ text. IsCheckReport (program_of checked.now) text.items) }
+{
+    let functions = checked.program().functions.len();
+    let needs = checked.needs();
+    let words = needs.words;
+    let stack = needs.stack;
+    let line = format!(in alloc; "ok functions {functions} words {words} stack {stack}\n")?;
+    Vec::from_slice(alloc, line.as_bytes())
+}
+
 /// The report of the run of at most `steps` instructions of the code with these replies.
-pub fn report(
+pub fn run_report(
     alloc: Global,
     code: &[SmallInstr],
     replies: &[u32],

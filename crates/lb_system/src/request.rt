@@ -1,6 +1,6 @@
 // The words of a command line, and what they ask for.
-ghost use Rattle.std.specs.Prelude.{◌≡◌, ◌≤◌, ◌↔◌, ◌⊎◌, ℕ, List, slice_index, IsTrue, IfOk, IsOk, IfSome, IfNone, IsErrOf, map, string_bytes};
-ghost use Rattle.lb_system.specs.Request.{IsRequest, IsStepCount, IsReply, AreReplies};
+ghost use Rattle.std.specs.Prelude.{◌≡◌, ◌≤◌, ◌↔◌, ◌⊎◌, ℕ, List, [], ◌∷◌, slice_index, IsTrue, IfOk, IsOk, IfSome, IfNone, IsErrOf, map, string_bytes};
+ghost use Rattle.lb_system.specs.Request.{Job, IsRequest, IsGiven, IsStepCount, IsReply, AreReplies, job_of};
 
 use std::alloc::{AllocError, Global};
 
@@ -24,31 +24,61 @@ impl From<AllocError> for RequestError {
     }
 }
 
-/// How many instructions to run, and the replies that they get.
+/// What the words ask for.
 #[derive(Drop)]
-pub struct Request {
-    pub steps: u32,
-    pub replies: Vec<u32>,
+pub enum Request {
+    /// To check the program's rules, and to tell what it asks for.
+    Check,
+    /// To print the program.
+    Print,
+    /// To run the program for at most so many instructions, which get these replies.
+    Run { steps: u32, replies: Vec<u32> },
 }
 
 const MOST_STEPS: u32 = 4_000_000;
 
 /// What the words ask for, the program's name being the first of them.
 pub fn request_of(alloc: Global, words: &[String]) -> Result<Request, RequestError>
-    ensures ok { IfOk result (λ r. IsRequest (map string_bytes words.now) r.steps r.replies.items) }
-    ensures not_in_form { IsErrOf result RequestError.NotInForm → (n : ℕ) (vs : List ℕ) → IsRequest (map string_bytes words.now) n vs → ⊥ }
+    ensures ok { IfOk result (λ r. IsRequest (map string_bytes words.now) (job_of r)) }
+    ensures not_in_form { IsErrOf result RequestError.NotInForm → (job : Job) → IsRequest (map string_bytes words.now) job → ⊥ }
 {
-    let [_, mode, count, replies @ ..] = words else {
-        return Err(RequestError::NotInForm);
-    };
-    if mode.as_str() != "run" {
+    match words {
+        [_, mode] => mode_alone(mode.as_str()),
+        [_, mode, count, replies @ ..] => run_of(alloc, mode.as_str(), count.as_str(), replies),
+        _ => Err(RequestError::NotInForm),
+    }
+}
+
+// A mode whose words are its name alone.
+fn mode_alone(mode: &str) -> Result<Request, RequestError>
+    ensures ok { IfOk result (λ r. IsGiven (job_of r) (mode.now ∷ [])) }
+    ensures not_in_form { IsErrOf result RequestError.NotInForm → (job : Job) → IsGiven job (mode.now ∷ []) → ⊥ }
+{
+    match mode {
+        "check" => Ok(Request::Check),
+        "print" => Ok(Request::Print),
+        _ => Err(RequestError::NotInForm),
+    }
+}
+
+// A mode with a number and replies.
+fn run_of(
+    alloc: Global,
+    mode: &str,
+    count: &str,
+    replies: &[String],
+) -> Result<Request, RequestError>
+    ensures ok { IfOk result (λ r. IsGiven (job_of r) (mode.now ∷ count.now ∷ map string_bytes replies.now)) }
+    ensures not_in_form { IsErrOf result RequestError.NotInForm → (job : Job) → IsGiven job (mode.now ∷ count.now ∷ map string_bytes replies.now) → ⊥ }
+{
+    if mode != "run" {
         return Err(RequestError::NotInForm);
     }
-    let Some(steps) = step_count(count.as_str()) else {
+    let Some(steps) = step_count(count) else {
         return Err(RequestError::NotInForm);
     };
     let replies = replies_of(alloc, replies)?;
-    Ok(Request { steps, replies })
+    Ok(Request::Run { steps, replies })
 }
 
 fn replies_of(alloc: Global, words: &[String]) -> Result<Vec<u32>, RequestError>
