@@ -4,7 +4,8 @@ ghost use Rattle.lb_syntax.specs.Tree.{term_of};
 ghost use Rattle.lb_syntax.specs.WellFormed.{IsTerm};
 ghost use Rattle.lb_syntax.specs.Printing.{term_text, listed};
 
-use crate::words::{add_access, add_name, add_number, sign_of};
+use crate::words::{add_access, add_name, add_number};
+use lb_spelling::sign_of;
 use lb_syntax::Expr;
 use std::alloc::{AllocError, Global};
 

@@ -2,33 +2,10 @@
 ghost use Rattle.std.specs.Prelude.{◌≡◌, ◌++◌, codes, decimal, OnOk, All};
 ghost use Rattle.lb_syntax.specs.Names.{IsName};
 ghost use Rattle.lb_syntax.specs.WellFormed.{IsWord};
-ghost use Rattle.lb_syntax.specs.Printing.{op_text, width_text, action_text, listed, targets_text, results_text};
+ghost use Rattle.lb_syntax.specs.Printing.{width_text, action_text, listed, targets_text, results_text};
 
-use lb_syntax::{Action, Name, Op, Width};
+use lb_syntax::{Action, Name, Width};
 use std::alloc::{AllocError, Global};
-
-/// The sign of an operation.
-pub fn sign_of(op: Op) -> &'static [u8]
-    ensures { result.now ≡ op_text op }
-{
-    match op {
-        Op::Add => b"+",
-        Op::Sub => b"-",
-        Op::Mul => b"*",
-        Op::Mulhuu => b"*^",
-        Op::Divu => b"/",
-        Op::Remu => b"%",
-        Op::And => b"&",
-        Op::Or => b"|",
-        Op::Xor => b"^",
-        Op::Sru => b">>",
-        Op::Slu => b"<<",
-        Op::Srs => b">>.",
-        Op::Lts => b"<.",
-        Op::Ltu => b"<",
-        Op::Eq => b"==",
-    }
-}
 
 // How many bytes a load or a store moves.
 fn digit_of(width: Width) -> &'static [u8]

@@ -6,7 +6,7 @@ ghost use Rattle.lb_spelling.specs.Machine.{next};
 ghost use Rattle.lb_scan.specs.Words.{token_of, token_of_option};
 
 use crate::bytes::{begins_with, same};
-use lb_spelling::Symbol;
+use lb_spelling::{Symbol, sign_of};
 use lb_syntax::{Action, Op, Width};
 
 /// A token of a source text.
@@ -132,29 +132,7 @@ pub fn spelling<'a>(word: &Word<'a>) -> &'a [u8]
         Word::Semicolon => b";",
         Word::Becomes => b"=",
         Word::Arrow => b"->",
-        Word::Sign(op) => sign(*op),
-    }
-}
-
-fn sign(op: Op) -> &'static [u8]
-    ensures { result.now ≡ tokens.spelling (tokens.Sign op) }
-{
-    match op {
-        Op::Add => b"+",
-        Op::Sub => b"-",
-        Op::Mul => b"*",
-        Op::Mulhuu => b"*^",
-        Op::Divu => b"/",
-        Op::Remu => b"%",
-        Op::And => b"&",
-        Op::Or => b"|",
-        Op::Xor => b"^",
-        Op::Sru => b">>",
-        Op::Slu => b"<<",
-        Op::Srs => b">>.",
-        Op::Lts => b"<.",
-        Op::Ltu => b"<",
-        Op::Eq => b"==",
+        Word::Sign(op) => sign_of(*op),
     }
 }
 

@@ -3,8 +3,10 @@
 
 mod fault;
 mod laws;
+mod signs;
 mod symbol;
 
 pub use fault::{TextFault, TextKind};
 pub use laws::{every_text, one_fault, one_tree};
+pub use signs::sign_of;
 pub use symbol::Symbol;
