@@ -15,8 +15,8 @@ use lb_syntax::{Function, Program};
 use std::alloc::Global;
 
 /// The program, checked, where it keeps every rule of the language. A fault comes exactly where it breaks one, unless
-/// memory runs out first: the first rule in the order of the faults, at the first place in text order. The program is
-/// dropped then. It has fewer than 2^30 functions, parameters, results, targets, commands and expression nodes together.
+/// memory runs out first: the first rule in the order of the faults, at the first place in text order. Then the
+/// program is dropped. `program` has fewer than 2^30 functions, parameters, results, targets, commands and expression nodes together.
 pub fn check(alloc: Global, program: Program) -> Result<Checked, CheckError>
     requires { parts (program_of program) < 2 ^ 30 }
     ensures program { IfOk result (λ checked. checked ≡ program) }

@@ -50,7 +50,7 @@ pub enum CheckFault {
     /// The function's frame needs this many bytes, over 2,032.
     #[error("a frame of {bytes} bytes, over 2032")]
     FrameNeed { function: Name, bytes: u64 },
-    /// A branch needs to pass this many bytes, over 4,080.
+    /// The branches of an `if` or a `while` may have to pass this many bytes, over 4,080.
     #[error("a branch over {bytes} bytes, over 4080")]
     JumpNeed { function: Name, bytes: u64 },
     /// The code needs this many words of 4 bytes, over 32,768.

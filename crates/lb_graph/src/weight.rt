@@ -7,7 +7,7 @@ use crate::graph::Graph;
 use std::alloc::{AllocError, Global};
 
 /// The greatest sum of weights over a path of a graph without cycles, where `weights[i]` is the weight of node `i`.
-/// It is 0 for a graph without nodes. The error comes only for want of memory.
+/// It is 0 for a graph without nodes. The graph has at most 2^16 nodes, and a weight for each. The error comes only for want of memory.
 pub fn greatest_weight(alloc: Global, graph: &Graph, weights: &[u32]) -> Result<u64, AllocError>
     requires few { length graph.now.calls ≤ 2 ^ 16 }
     requires weighed { length weights.now ≡ length graph.now.calls }

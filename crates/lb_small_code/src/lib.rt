@@ -4,29 +4,29 @@
 
 ghost use Rattle.lb_small_code.specs.Laws.{CodeFollows, CodeReaches, CodeIsWithinNeed, CodeIsInRange, LayoutIsValid};
 
-/// Whatever the devices reply: what n instructions of the code do to devices is the beginning of what the program does
-/// with fuel n, and the processor isn't halted.
+/// Of a program of the part within the limits and a valid layout, whatever the devices reply: where it does nothing undefined with fuel n, what n
+/// instructions of its code do to devices is the beginning of what it does, and the processor isn't halted.
 pub fn code_follows()
     ensures { CodeFollows }
 {}
 
-/// Whatever the devices reply: what the program does with fuel n is the beginning of what the code does in n + 1 times as
-/// many instructions as the program asks for words.
+/// Of such a program and layout, whatever the devices reply: where it does nothing undefined with fuel n, what it does is the beginning of
+/// what its code does in n + 1 times as many instructions as it asks for words.
 pub fn code_reaches()
     ensures { CodeReaches }
 {}
 
-/// The code has from 1 word to as many as the program asks for.
+/// The code of a program of the part has from 1 word to as many as the program asks for.
 pub fn code_is_within_need()
     ensures { CodeIsWithinNeed }
 {}
 
-/// Each instruction of the code is in range.
+/// Each instruction of the code of a program within the limits is in range.
 pub fn code_is_in_range()
     ensures { CodeIsInRange }
 {}
 
-/// The frames of the code make a layout that is valid for the program.
+/// The frames of the code make a layout that is valid for the program, which is of the part.
 pub fn layout_is_valid()
     ensures { LayoutIsValid }
 {}

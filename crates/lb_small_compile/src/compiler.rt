@@ -43,7 +43,7 @@ pub fn compile(alloc: Global, program: &Program) -> Result<Compiled, CompileErro
     ensures layout { IfOk result (λ c. IsValidLayout c.layout (program_of program.now)) }
     ensures slots { IfOk result (λ c. map (λ frame. frame.size) c.layout.frames ≡ map (λ f. 4 * (variables f + greatest_depth f.body)) (program_of program.now)) }
 
-    // Every run of the code does what the program does under the layout, and comes as far.
+    // Where the program does nothing undefined under the layout, every run of the code does what it does, and comes as far.
     ensures follows { IfOk result (λ c. Follows (program_of program.now) c.layout c.code.items) }
     ensures reaches { IfOk result (λ c. Reaches (program_of program.now) c.layout c.code.items) }
 

@@ -134,8 +134,8 @@ pub record IsCodeOf (p : List Procedure) (code : List SmallInstr) (layout : Layo
   pub valid : IsValidLayout layout p
   pub slots : map (λ frame. frame.size) layout.frames ≡ map (λ f. 4 * (variables f + greatest_depth f.body)) p
 
--- the program keeps the rules, is one of those that are compiled so far, and these are its code and its layout; every run of the code
--- does what the program does, and comes as far
+-- the program keeps the rules, is one of those that are compiled so far, and these are its code and its layout; where it does nothing
+-- undefined, every run of the code does what it does, and comes as far
 pub record IsBuilt (p : List Procedure) (code : List SmallInstr) (layout : Layout) : Type 0 where
   pub rules : KeepsRules p
   pub part : IsInPart p

@@ -12,7 +12,7 @@ pub enum Fault {
     Text(TextFault),
     /// The program breaks a rule other than those on what it may ask for.
     Check(CheckFault),
-    /// The program asks for too much code, for too long a branch, or for too much of the stack.
+    /// The program asks for too large a frame, too long a branch, too much code, or too much stack.
     Limit(CheckFault),
     /// The input couldn't be read.
     Read,
