@@ -1,5 +1,5 @@
 -- From what was made of a program, or the problem with it, to what is answered on its text.
-use Rattle.std.proofs.Common.{◌≡◌, List, subst, sym}
+use Rattle.std.proofs.Common.{List, subst, sym}
 use Rattle.lb_syntax.specs.Names.{Text}
 use Rattle.lb_syntax.specs.Tree.{Procedure}
 use Rattle.lb_spelling.specs.Places.{IsAccepted}
@@ -10,7 +10,7 @@ use Rattle.lb_system.specs.declared.fault.Fault.{Fault}
 use Rattle.lb_system.specs.declared.fault.Fault.TheVariants as fault
 use Rattle.lb_system.specs.Request.{Job}
 use Rattle.lb_system.specs.Faults.{IsLimit}
-use Rattle.lb_system.specs.Answers.{IsRuleFault, IsProblem, IsCause, ChecksRules, BreaksRule, BreaksLimit}
+use Rattle.lb_system.specs.Answers.{IsRuleFault, IsProblem, IsCause, ChecksRules}
 
 -- a problem with a program is the cause on its text
 pub problem_cause : (job : Job) (p : List Procedure) (text : Text) (f : Fault) → IsAccepted p text → IsProblem job p f → IsCause job text f

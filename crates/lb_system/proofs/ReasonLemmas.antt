@@ -1,13 +1,13 @@
 -- The reason of a fault, from what was found to what is told.
-use Rattle.std.proofs.Common.{◌≡◌, ℕ, ◌≤◌, List, length, Option, Some, None, inl, inr, subst, sym}
+use Rattle.std.proofs.Common.{ℕ, List, Option, Some, inl, inr, subst, sym}
 use Rattle.std.specs.Prelude.{IfSome}
 use Rattle.lb_ports.specs.Bytes.{ReadsUpTo}
 use Rattle.lb_syntax.specs.Names.{Text}
 use Rattle.lb_system.specs.declared.fault.Fault.{Fault}
 use Rattle.lb_system.specs.declared.fault.Fault.TheVariants as fault
-use Rattle.lb_system.specs.Request.{Job, AreInForm}
+use Rattle.lb_system.specs.Request.{AreInForm}
 use Rattle.lb_system.specs.Faults.{TakesMemory}
-use Rattle.lb_system.specs.Answers.{Known, IsTask, IsCause, IsReason, IsTold, HasCause, IsOfText, ShowsForm, most_input}
+use Rattle.lb_system.specs.Answers.{Known, IsReason, IsTold, HasCause, IsOfText, ShowsForm, most_input}
 
 cause_reads : {words : List Text} {old new : Known} (f : Fault) → HasCause words old new f → ReadsUpTo old new most_input
 cause_reads f h = let t : Text = h.1 in (t, h.2.read.0, h.2.short)

@@ -1,14 +1,14 @@
 -- Commands, blocks and functions.
-use Rattle.std.proofs.Common.{◌≡◌, ℕ, ◌+◌, ◌-◌, ◌<◌, ◌≤◌, true, false, List, [], ◌∷◌, ◌++◌, length, refl, sym, ap, subst, ◌∙◌, append-nil, arith, inl, inr}
+use Rattle.std.proofs.Common.{◌≡◌, ℕ, ◌+◌, ◌-◌, ◌≤◌, true, List, [], ◌∷◌, ◌++◌, refl, sym, ap, subst, ◌∙◌, append-nil, arith, inl, inr}
 use Rattle.std.specs.Prelude.{is_some}
 use Rattle.lb_syntax.specs.Names.{Text}
 use Rattle.lb_syntax.specs.Brackets.{most_brackets}
 use Rattle.lb_syntax.specs.Tree.{Command, Ends, Then, chain}
 use Rattle.lb_spelling.specs.declared.symbol.Symbol.{Symbol}
 use Rattle.lb_spelling.specs.declared.symbol.Symbol.TheVariants as symbols
-use Rattle.lb_spelling.specs.Tokens.{Token, Skip, Unset, Store, StackAlloc, If, Else, While, Named, Device, OpenBrace, CloseBrace, Arrow, Semicolon, Stands}
-use Rattle.lb_spelling.specs.Grammar.{Standing, ◌then◌, CommandAt, CommandsAt, BlockAt, ElseAt, ResultsAt}
-use Rattle.lb_spelling.specs.Machine.{Stack, next, next_after_if, next_commands, opened}
+use Rattle.lb_spelling.specs.Tokens.{Token, Skip, Unset, Store, StackAlloc, If, Else, While, Named, Device, OpenBrace, CloseBrace, Stands}
+use Rattle.lb_spelling.specs.Grammar.{◌then◌, CommandAt, CommandsAt, BlockAt, ElseAt}
+use Rattle.lb_spelling.specs.Machine.{Stack, next_after_if, next_commands, opened}
 use Rattle.lb_spelling.specs.Parsing.{Takes}
 use Rattle.lb_text.specs.declared.halt.Halt.{Halt}
 use Rattle.lb_text.specs.Reading.{or_empty, coming, Goes, Reads, ReadsUpTo, Fails, Took, After, begins_command}

@@ -1,20 +1,19 @@
 -- Functions, and the whole text.
-use Rattle.std.proofs.Common.{◌≡◌, ℕ, ◌+◌, ◌-◌, ◌<◌, ◌≤◌, ◌^◌, true, false, List, [], ◌∷◌, ◌++◌, length, refl, sym, ap, subst, ◌∙◌, append-nil, arith}
+use Rattle.std.proofs.Common.{◌≡◌, ◌<◌, ◌≤◌, true, List, [], ◌∷◌, ◌++◌, length, refl, sym, subst, ◌∙◌, arith}
 use Rattle.std.specs.Prelude.{is_some}
 use Rattle.lb_syntax.specs.Names.{Text}
 use Rattle.lb_syntax.specs.Brackets.{most_brackets}
 use Rattle.lb_syntax.specs.Tree.{Command, Procedure}
-use Rattle.lb_spelling.specs.declared.symbol.Symbol.{Symbol}
 use Rattle.lb_spelling.specs.declared.symbol.Symbol.TheVariants as symbols
 use Rattle.lb_spelling.specs.Tokens.{Token, Fn, Arrow, OpenBrace, Stands, Outside, gap}
 use Rattle.lb_spelling.specs.Grammar.{Standing, ◌then◌, CommandsAt, BlockAt, ResultsAt, FunctionAt, FunctionsAt}
 use Rattle.lb_spelling.specs.Places.{IsAccepted}
-use Rattle.lb_spelling.specs.Machine.{Stack, Whole, next_functions, opened}
-use Rattle.lb_spelling.specs.Parsing.{outcome, Takes, Faults}
+use Rattle.lb_spelling.specs.Machine.{Stack, next_functions}
+use Rattle.lb_spelling.specs.Parsing.{Takes}
 use Rattle.lb_spelling.proofs.TextRuns.{token_less}
 use Rattle.lb_spelling.proofs.Place.{gap_whole, whole_shallow}
 use Rattle.lb_text.specs.declared.halt.Halt.{Halt}
-use Rattle.lb_text.specs.Reading.{coming, Goes, Reads, Fails, After}
+use Rattle.lb_text.specs.Reading.{Goes, Reads, Fails, After}
 use Rattle.lb_text.proofs.Steps.{start, and_token, and_part, and_parts, fails_at, fails_among, fails_all}
 use Rattle.lb_text.proofs.Calls.{through}
 use Rattle.lb_text.proofs.Lists.{SoFar, one_more, all_read}

@@ -1,11 +1,11 @@
 -- Which token a symbol takes.
-use Rattle.std.proofs.Common.{◌≡◌, ℕ, ◌≤◌, true, false, List, [], ◌∷◌, refl, subst}
+use Rattle.std.proofs.Common.{◌≡◌, ℕ, ◌≤◌, true, [], ◌∷◌, refl, subst}
 use Rattle.std.specs.Prelude.{is_some}
 use Rattle.lb_syntax.specs.Names.{Text}
 use Rattle.lb_syntax.specs.Brackets.{most_brackets}
 use Rattle.lb_spelling.specs.declared.symbol.Symbol.{Symbol}
 use Rattle.lb_spelling.specs.declared.symbol.Symbol.TheVariants as symbols
-use Rattle.lb_spelling.specs.Tokens.{Token, Stands, OpenParen, CloseParen, OpenBrace, Comma, Semicolon, As, Becomes}
+use Rattle.lb_spelling.specs.Tokens.{Token, Stands, OpenParen, CloseParen, OpenBrace, Comma, Semicolon, As}
 use Rattle.lb_spelling.specs.Machine.{next_open_paren, next_close_paren, next_comma, next_semicolon, next_as, next_block, opened}
 use Rattle.lb_spelling.specs.Parsing.{Takes}
 use Rattle.lb_text.specs.Reading.{Reads, is_sign, sign_of}

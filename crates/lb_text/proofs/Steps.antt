@@ -1,18 +1,16 @@
 -- How what was read of a stack of symbols adds up.
-use Rattle.std.proofs.Common.{◌≡◌, ℕ, ◌+◌, ◌-◌, ◌<◌, ◌≤◌, true, false, List, [], ◌∷◌, ◌++◌, length, Option, Some, None, refl, sym, ap, ◌∙◌, append_assoc, append-nil, arith}
+use Rattle.std.proofs.Common.{◌≡◌, ℕ, ◌≤◌, true, [], ◌∷◌, ◌++◌, Option, Some, None, refl, sym, ap, ◌∙◌, append_assoc, append-nil, arith}
 use Rattle.std.specs.Prelude.{is_some}
 use Rattle.lb_syntax.specs.Names.{Text}
 use Rattle.lb_syntax.specs.Brackets.{most_brackets}
 use Rattle.lb_spelling.specs.declared.symbol.Symbol.{Symbol}
-use Rattle.lb_spelling.specs.declared.symbol.Symbol.TheVariants as symbols
-use Rattle.lb_spelling.specs.Tokens.{Token, Stands, OpenParen, CloseParen, Comma, Semicolon, As, Becomes}
-use Rattle.lb_spelling.specs.Tokens as tokens
+use Rattle.lb_spelling.specs.Tokens.{Token, Stands}
 use Rattle.lb_spelling.specs.Grammar.{Standing}
-use Rattle.lb_spelling.specs.Machine.{Stack, Stuck, next, opened}
-use Rattle.lb_spelling.specs.Parsing.{outcome, Takes, Faults}
+use Rattle.lb_spelling.specs.Machine.{Stack, next, opened}
+use Rattle.lb_spelling.specs.Parsing.{outcome, Takes}
 use Rattle.lb_text.specs.declared.halt.Halt.{Halt}
 use Rattle.lb_text.specs.declared.halt.Halt.TheVariants.{Memory, Fault}
-use Rattle.lb_text.specs.Reading.{or_empty, coming, Goes, Reads, Fails, After, ReadsFrom, FailsFrom, is_sign, sign_of}
+use Rattle.lb_text.specs.Reading.{or_empty, coming, Goes, Reads, Fails, After, ReadsFrom, FailsFrom}
 use Rattle.lb_spelling.proofs.Running.{token_runs}
 use Rattle.lb_spelling.proofs.TextRuns.{token_less}
 

@@ -1,18 +1,15 @@
 -- What the trees that are built say.
 use Rattle.std.proofs.Common.{◌≡◌, ℕ, List, [], sym, ap, ◌∙◌, map}
 use Rattle.lb_syntax.specs.Names.{Text}
-use Rattle.lb_syntax.specs.declared.tree.Op.{Op}
-use Rattle.lb_syntax.specs.declared.tree.Width.{Width}
 use Rattle.lb_syntax.specs.declared.tree.Expr.{Expr, fold-Expr, fold-roll-Expr}
 use Rattle.lb_syntax.specs.declared.tree.Expr.TheOpen as layers
 use Rattle.lb_syntax.specs.declared.tree.Expr.TheVariants as exprs
-use Rattle.lb_syntax.specs.declared.tree.Action.{Action}
-use Rattle.lb_syntax.specs.declared.tree.Block.{Block, roll-Block, fold-roll-Block}
-use Rattle.lb_syntax.specs.declared.tree.Cmd.{Cmd, fold-Cmd, fold-roll-Cmd}
+use Rattle.lb_syntax.specs.declared.tree.Block.{roll-Block, fold-roll-Block}
+use Rattle.lb_syntax.specs.declared.tree.Cmd.{Cmd, fold-roll-Cmd}
 use Rattle.lb_syntax.specs.declared.tree.Cmd.TheOpen as cmd_layers
 use Rattle.lb_syntax.specs.declared.tree.Cmd.TheVariants as cmds
-use Rattle.lb_syntax.specs.Tree.{Command, Skips, Sets, Chooses, Ends, command_of, block_of, command_layer, block_layer, chain}
-use Rattle.lb_syntax.specs.Tree.{Term, Number, Variable, Loaded, Operation, term_of, term_layer}
+use Rattle.lb_syntax.specs.Tree.{Command, Sets, Ends, command_of, block_of, command_layer, block_layer, chain}
+use Rattle.lb_syntax.specs.Tree.{Term, Number, Variable, term_of, term_layer}
 
 pub term_of-Literal : (n : ℕ) → term_of (exprs.Literal n) ≡ Number n
 term_of-Literal n = ap (λ (e : Expr). fold-Expr Term term_layer e) (sym (exprs.rolls-Literal n)) ∙ fold-roll-Expr Term term_layer (layers.Literal n)

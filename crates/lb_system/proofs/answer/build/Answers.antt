@@ -1,4 +1,4 @@
-use Rattle.std.proofs.Common.{◌≡◌, IsTrue, sym, subst}
+use Rattle.std.proofs.Common.{sym, subst}
 use Rattle.lb_syntax.specs.Tree.{program_of}
 use Rattle.lb_small_code.specs.Part.{IsInPart}
 use Rattle.lb_system.proofs.answer.build.Goals as goal

@@ -1,4 +1,3 @@
-use Rattle.std.proofs.Common.{sym}
 use Rattle.std.proofs.lemmas.Result.{IfOk-weaker, IfErr-weaker}
 use Rattle.lb_syntax.specs.Tree.{command_of}
 use Rattle.lb_spelling.specs.Grammar.{CommandAt}

@@ -1,4 +1,4 @@
-use Rattle.std.proofs.lemmas.Result.{err_from_is_err_and, IfOk-weaker, IfErr-weaker}
+use Rattle.std.proofs.lemmas.Result.{IfOk-weaker, IfErr-weaker}
 use Rattle.lb_text.proofs.Words.{named_is_name}
 use Rattle.lb_text.proofs.Steps.{reads_all, fails_all, nothing_more}
 use Rattle.lb_text.proofs.Trees.{term_of-Literal, term_of-Var}
