@@ -1,51 +1,18 @@
 // Programs of functions of which each calls the next, in its innermost block: checked, laid out and run.
 use lb_handmade::{NotChecked, checked, packed_layout};
 use lb_source::{SourceRun, interpret};
-use lb_syntax::{Action, Block, Cmd, Expr, Function, Name, NameFault, Program};
+use lb_syntax::{Action, Block, Cmd, Expr, Function, Name, Program};
 use sqlite_items::Items;
-use std::alloc::{AllocError, Global};
+use std::alloc::Global;
 
-/// Why a chain isn't run.
-#[derive(Clone, Copy, Debug, PartialEq, Eq)]
-pub enum NotRun {
-    /// It has no names, or breaks a rule of the language.
-    Form,
-    /// No memory is left.
-    Memory,
-}
-
-impl From<AllocError> for NotRun {
-    fn from(_: AllocError) -> Self {
-        NotRun::Memory
-    }
-}
-
-impl From<NameFault> for NotRun {
-    fn from(fault: NameFault) -> Self {
-        match fault {
-            NameFault::NotAName => NotRun::Form,
-            NameFault::Memory => NotRun::Memory,
-        }
-    }
-}
-
-impl From<NotChecked> for NotRun {
-    fn from(cause: NotChecked) -> Self {
-        match cause {
-            NotChecked::BreaksRule => NotRun::Form,
-            NotChecked::Memory => NotRun::Memory,
-        }
-    }
-}
-
-fn only(alloc: Global, command: Cmd) -> Result<Block, NotRun> {
+fn only(alloc: Global, command: Cmd) -> Result<Block, NotChecked> {
     let mut commands = Items::new(alloc);
     commands.push(command)?;
     Ok(Block { commands })
 }
 
 // `stackalloc 4 as x { .. }`
-fn allocated(alloc: Global, body: Block) -> Result<Block, NotRun> {
+fn allocated(alloc: Global, body: Block) -> Result<Block, NotChecked> {
     only(
         alloc,
         Cmd::StackAlloc {
@@ -57,7 +24,7 @@ fn allocated(alloc: Global, body: Block) -> Result<Block, NotRun> {
 }
 
 // So many blocks in one another, and in the innermost this.
-fn nested(alloc: Global, blocks: u32, innermost: Block) -> Result<Block, NotRun> {
+fn nested(alloc: Global, blocks: u32, innermost: Block) -> Result<Block, NotChecked> {
     let mut block = innermost;
     for _count in 0..blocks {
         block = allocated(alloc, block)?;
@@ -66,7 +33,7 @@ fn nested(alloc: Global, blocks: u32, innermost: Block) -> Result<Block, NotRun>
 }
 
 // `MMIOWRITE(0x1001200C, 1);`
-fn report(alloc: Global) -> Result<Block, NotRun> {
+fn report(alloc: Global) -> Result<Block, NotChecked> {
     let mut arguments = Items::new(alloc);
     arguments.push(Expr::Literal(0x1001_200C))?;
     arguments.push(Expr::Literal(1))?;
@@ -80,7 +47,7 @@ fn report(alloc: Global) -> Result<Block, NotRun> {
     )
 }
 
-fn call(alloc: Global, name: &Name) -> Result<Block, NotRun> {
+fn call(alloc: Global, name: &Name) -> Result<Block, NotChecked> {
     only(
         alloc,
         Cmd::Call {
@@ -98,7 +65,7 @@ fn link(
     rest: &[Name],
     each: u32,
     last: u32,
-) -> Result<Function, NotRun> {
+) -> Result<Function, NotChecked> {
     let body = match rest {
         [] => nested(alloc, last, report(alloc)?)?,
         [next, ..] => nested(alloc, each, call(alloc, next)?)?,
@@ -111,7 +78,7 @@ fn link(
     })
 }
 
-fn chain(alloc: Global, names: &[Name], each: u32, last: u32) -> Result<Program, NotRun> {
+fn chain(alloc: Global, names: &[Name], each: u32, last: u32) -> Result<Program, NotChecked> {
     let mut functions = Items::new(alloc);
     for (i, name) in names.iter().enumerate() {
         functions.push(link(alloc, name, &names[i + 1..], each, last)?)?;
@@ -127,7 +94,7 @@ pub fn run_chain(
     each: u32,
     last: u32,
     fuel: u64,
-) -> Result<SourceRun, NotRun> {
+) -> Result<SourceRun, NotChecked> {
     let program = checked(alloc, chain(alloc, names, each, last)?)?;
     let layout = packed_layout(alloc, &program)?;
     Ok(interpret(alloc, &program, &layout, fuel, &[])?)

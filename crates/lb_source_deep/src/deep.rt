@@ -1,7 +1,8 @@
 // The deepest programs. A command takes 8 words of code at least and a function 80 besides, so of the 32,768 words
 // that a program may ask for, n functions leave room for 4,094 - 10 n commands in one another. A frame has room for
 // 473 blocks. So nine functions reach deepest: with fewer the frames are full first.
-use crate::chain::{NotRun, run_chain};
+use crate::chain::run_chain;
+use lb_handmade::NotChecked;
 use lb_source::SourceEnd;
 use lb_syntax::Name;
 use lb_trace::Event;
@@ -15,7 +16,7 @@ const REACHED: Event = Event::St {
 };
 
 // `init`, so many further functions, and `loop`
-fn names(alloc: Global, between: usize) -> Result<Items<Name>, NotRun> {
+fn names(alloc: Global, between: usize) -> Result<Items<Name>, NotChecked> {
     let mut names = Items::new(alloc);
     names.push(Name::new(alloc, b"init")?)?;
     for i in 0..between {
@@ -33,7 +34,7 @@ fn reaches(
     blocks: (u32, u32),
     fuel: u64,
     times: usize,
-) -> Result<bool, NotRun> {
+) -> Result<bool, NotChecked> {
     let run = run_chain(alloc, names, blocks.0, blocks.1, fuel)?;
     let trace = run.trace.as_slice();
     Ok(

@@ -1,6 +1,7 @@
 // A program and what it does, and whether it does it.
 use crate::sketch::{Line, block};
-use crate::three::{NotRun, run_three};
+use crate::three::run_three;
+use lb_handmade::NotChecked;
 use lb_source::{Reason, SourceEnd};
 use lb_trace::Event;
 use std::alloc::Global;
@@ -113,7 +114,7 @@ fn writes(trace: &[Event], values: &[u32]) -> bool {
 }
 
 /// Whether the program does what the row says.
-pub fn agrees(alloc: Global, row: &Row) -> Result<bool, NotRun> {
+pub fn agrees(alloc: Global, row: &Row) -> Result<bool, NotChecked> {
     let init = block(alloc, row.init)?;
     let again = block(alloc, row.again)?;
     let f = block(alloc, row.f)?;

@@ -1,5 +1,5 @@
 // Programs written down as constant data, and the trees that they say.
-use crate::three::NotRun;
+use lb_handmade::NotChecked;
 use lb_syntax::{Action, Block, Cmd, Expr, Name, Op, Width};
 use sqlite_items::{Boxed, Items};
 use std::alloc::Global;
@@ -30,7 +30,7 @@ pub enum Line<'a> {
 }
 
 /// The tree of an expression.
-pub fn expr(alloc: Global, e: &Term) -> Result<Expr, NotRun> {
+pub fn expr(alloc: Global, e: &Term) -> Result<Expr, NotChecked> {
     Ok(match e {
         Term::Num(n) => Expr::Literal(*n),
         Term::Var(x) => Expr::Var(Name::new(alloc, *x)?),
@@ -46,7 +46,7 @@ pub fn expr(alloc: Global, e: &Term) -> Result<Expr, NotRun> {
     })
 }
 
-fn exprs(alloc: Global, es: &[Term]) -> Result<Items<Expr>, NotRun> {
+fn exprs(alloc: Global, es: &[Term]) -> Result<Items<Expr>, NotChecked> {
     let mut trees = Items::new(alloc);
     for e in es {
         trees.push(expr(alloc, e)?)?;
@@ -54,7 +54,7 @@ fn exprs(alloc: Global, es: &[Term]) -> Result<Items<Expr>, NotRun> {
     Ok(trees)
 }
 
-fn names(alloc: Global, xs: &[&[u8]]) -> Result<Items<Name>, NotRun> {
+fn names(alloc: Global, xs: &[&[u8]]) -> Result<Items<Name>, NotChecked> {
     let mut all = Items::new(alloc);
     for x in xs {
         all.push(Name::new(alloc, *x)?)?;
@@ -67,7 +67,7 @@ fn access(
     targets: &[&[u8]],
     action: Action,
     arguments: &[Term],
-) -> Result<Cmd, NotRun> {
+) -> Result<Cmd, NotChecked> {
     Ok(Cmd::Interact {
         targets: names(alloc, targets)?,
         action,
@@ -75,7 +75,7 @@ fn access(
     })
 }
 
-fn call(alloc: Global, targets: &[&[u8]], arguments: &[Term]) -> Result<Cmd, NotRun> {
+fn call(alloc: Global, targets: &[&[u8]], arguments: &[Term]) -> Result<Cmd, NotChecked> {
     Ok(Cmd::Call {
         targets: names(alloc, targets)?,
         function: Name::new(alloc, b"f")?,
@@ -84,7 +84,7 @@ fn call(alloc: Global, targets: &[&[u8]], arguments: &[Term]) -> Result<Cmd, Not
 }
 
 #[cycle(build)]
-fn command(alloc: Global, line: &Line) -> Result<Cmd, NotRun> {
+fn command(alloc: Global, line: &Line) -> Result<Cmd, NotChecked> {
     match line {
         Line::Skip => Ok(Cmd::Skip),
         Line::Set(x, e) => Ok(Cmd::Set {
@@ -121,7 +121,7 @@ fn command(alloc: Global, line: &Line) -> Result<Cmd, NotRun> {
 
 /// The tree of a block.
 #[cycle(build)]
-pub fn block(alloc: Global, lines: &[Line]) -> Result<Block, NotRun> {
+pub fn block(alloc: Global, lines: &[Line]) -> Result<Block, NotChecked> {
     let mut commands = Items::new(alloc);
     for line in lines {
         commands.push(command(alloc, line)?)?;

@@ -1,45 +1,12 @@
 // Programs of three bodies: checked, laid out and run.
 use lb_handmade::{NotChecked, checked, packed_layout};
 use lb_source::{SourceRun, interpret};
-use lb_syntax::{Block, Function, Name, NameFault, Program};
+use lb_syntax::{Block, Function, Name, Program};
 use sqlite_items::Items;
-use std::alloc::{AllocError, Global};
-
-/// Why a program isn't run.
-#[derive(Clone, Copy, Debug, PartialEq, Eq)]
-pub enum NotRun {
-    /// It has no names, or breaks a rule of the language.
-    Form,
-    /// No memory is left.
-    Memory,
-}
-
-impl From<AllocError> for NotRun {
-    fn from(_: AllocError) -> Self {
-        NotRun::Memory
-    }
-}
-
-impl From<NameFault> for NotRun {
-    fn from(fault: NameFault) -> Self {
-        match fault {
-            NameFault::NotAName => NotRun::Form,
-            NameFault::Memory => NotRun::Memory,
-        }
-    }
-}
-
-impl From<NotChecked> for NotRun {
-    fn from(cause: NotChecked) -> Self {
-        match cause {
-            NotChecked::BreaksRule => NotRun::Form,
-            NotChecked::Memory => NotRun::Memory,
-        }
-    }
-}
+use std::alloc::Global;
 
 // A function that is called from outside.
-fn entry(alloc: Global, name: &[u8], body: Block) -> Result<Function, NotRun> {
+fn entry(alloc: Global, name: &[u8], body: Block) -> Result<Function, NotChecked> {
     Ok(Function {
         name: Name::new(alloc, name)?,
         params: Items::new(alloc),
@@ -48,7 +15,7 @@ fn entry(alloc: Global, name: &[u8], body: Block) -> Result<Function, NotRun> {
     })
 }
 
-fn two(alloc: Global, first: &[u8], second: &[u8]) -> Result<Items<Name>, NotRun> {
+fn two(alloc: Global, first: &[u8], second: &[u8]) -> Result<Items<Name>, NotChecked> {
     let mut names = Items::new(alloc);
     names.push(Name::new(alloc, first)?)?;
     names.push(Name::new(alloc, second)?)?;
@@ -56,7 +23,7 @@ fn two(alloc: Global, first: &[u8], second: &[u8]) -> Result<Items<Name>, NotRun
 }
 
 // `fn f(a, b) -> (c, d)`
-fn helper(alloc: Global, body: Block) -> Result<Function, NotRun> {
+fn helper(alloc: Global, body: Block) -> Result<Function, NotChecked> {
     Ok(Function {
         name: Name::new(alloc, b"f")?,
         params: two(alloc, b"a", b"b")?,
@@ -66,7 +33,7 @@ fn helper(alloc: Global, body: Block) -> Result<Function, NotRun> {
 }
 
 // The program of three bodies.
-fn three(alloc: Global, init: Block, again: Block, f: Block) -> Result<Program, NotRun> {
+fn three(alloc: Global, init: Block, again: Block, f: Block) -> Result<Program, NotChecked> {
     let mut functions = Items::new(alloc);
     functions.push(entry(alloc, b"init", init)?)?;
     functions.push(entry(alloc, b"loop", again)?)?;
@@ -83,7 +50,7 @@ pub fn run_three(
     f: Block,
     fuel: u64,
     replies: &[u32],
-) -> Result<SourceRun, NotRun> {
+) -> Result<SourceRun, NotChecked> {
     let program = checked(alloc, three(alloc, init, again, f)?)?;
     let layout = packed_layout(alloc, &program)?;
     Ok(interpret(alloc, &program, &layout, fuel, replies)?)
