@@ -1,20 +1,7 @@
 // Programs with nested conditions and loops beside the source's interpreter: the same events, one by one.
-use lb_rows::call::{call_plain, whole};
-use lb_rows::source::{event_lines, source_run};
+use lb_rows::beside::{Row, agrees};
 use lb_source::{Reason, SourceEnd};
-use lb_trace::print_trace;
 use std::test::Fail;
-
-// A program, its replies as words and as numbers, how many events its code does in 4,000 instructions, and how the
-// source ends with as much fuel.
-#[derive(Drop)]
-struct Row<'a> {
-    words: &'a [&'a str],
-    replies: &'a [u32],
-    input: &'a str,
-    events: usize,
-    end: SourceEnd,
-}
 
 const NONE: [u32; 0] = [];
 
@@ -96,23 +83,7 @@ const ROWS: [Row<'static>; 10] = [
 #[test]
 fn does_what_the_source_does(rt: HostRuntime) -> Result<(), Fail> {
     for row in &ROWS {
-        let a = call_plain(rt.alloc(), &whole(row.words, row.input.as_bytes()))?;
-        assert_eq!(rt; a.status, 0, "of {}", row.input);
-        let source = source_run(rt.alloc(), row.input.as_bytes(), 4000, row.replies)?;
-        let source = source.ok_or("not built")?;
-        assert_eq!(rt; source.end, row.end, "of {}", row.input);
-        assert_eq!(rt;
-            source.trace.as_slice().len(),
-            row.events,
-            "of {}",
-            row.input
-        );
-        let lines = print_trace(rt.alloc(), source.trace.as_slice())?;
-        assert!(rt;
-            event_lines(a.written.as_slice(), row.events) == lines.as_slice(),
-            "of {}",
-            row.input
-        );
+        assert!(rt; agrees(rt.alloc(), row, 4000)?, "of {}", row.input);
     }
     Ok(())
 }

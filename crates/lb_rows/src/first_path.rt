@@ -1,5 +1,6 @@
 // The first rows: a program, its replies and its report; and each status with its line.
 use crate::call::{call_plain, whole};
+use std::alloc::{AllocError, Global};
 use std::test::Fail;
 
 const READS: &str =
@@ -97,8 +98,18 @@ fn reports_runs(rt: HostRuntime) -> Result<(), Fail> {
     Ok(())
 }
 
+// Whether the call ends as the row says, and nothing is run.
+fn is_refused(alloc: Global, row: &Row<'_>) -> Result<bool, AllocError> {
+    let answer = call_plain(alloc, &whole(row.words, row.input.as_bytes()))?;
+    Ok(
+        answer.status == row.status
+            && answer.written.as_slice() == row.written.as_bytes()
+            && !answer.has_code,
+    )
+}
+
 #[test]
-fn refuses_words_and_texts(rt: HostRuntime) -> Result<(), Fail> {
+fn refuses_words(rt: HostRuntime) -> Result<(), Fail> {
     let rows = [
         usage(&[]),
         usage(&["bulb"]),
@@ -116,6 +127,16 @@ fn refuses_words_and_texts(rt: HostRuntime) -> Result<(), Fail> {
         usage(&["bulb", "run", "1", "0000000g"]),
         usage(&["bulb", "run", "1", "00000000", ""]),
         usage(&["bulb", "run", "run", "1"]),
+    ];
+    for row in &rows {
+        assert!(rt; is_refused(rt.alloc(), row)?, "of {:?}", row.words);
+    }
+    Ok(())
+}
+
+#[test]
+fn refuses_texts(rt: HostRuntime) -> Result<(), Fail> {
+    let rows = [
         refused("fn init() {\n", 2, "text at 12 ended\n"),
         refused("", 3, "check no-init\n"),
         refused(
@@ -140,14 +161,7 @@ fn refuses_words_and_texts(rt: HostRuntime) -> Result<(), Fail> {
         not_built("fn init() {\n}\nfn loop() {\n}\nfn f() {\n}\n"),
     ];
     for row in &rows {
-        let a = call_plain(rt.alloc(), &whole(row.words, row.input.as_bytes()))?;
-        assert_eq!(rt; a.status, row.status, "of {} {:?}", row.input, row.words);
-        assert!(rt;
-            a.written.as_slice() == row.written.as_bytes(),
-            "written for {}",
-            row.input
-        );
-        assert!(rt; !a.has_code);
+        assert!(rt; is_refused(rt.alloc(), row)?, "of {}", row.input);
     }
     Ok(())
 }

@@ -5,6 +5,7 @@
 
 #[cfg(test)]
 mod adapters;
+pub mod beside;
 pub mod call;
 #[cfg(test)]
 mod compared;
