@@ -142,10 +142,12 @@ finds-loop_first f g (a ∷ b ∷ c ∷ frames) h fit = absurd fit.1.1
 
 -- ---- frames
 
-both_empty : {A : Type 0} (xs ys : List A) → xs ≡ [] → ys ≡ [] → xs ++ ys ≡ []
+-- a list of two empty parts
+pub both_empty : {A : Type 0} (xs ys : List A) → xs ≡ [] → ys ≡ [] → xs ++ ys ≡ []
 both_empty [] ys h k = k
 both_empty (x ∷ xs) ys h k = cc
 
+-- the part has no blocks of memory
 mutual
   command_sites : (c : Command) → IsSmallCommand c → sites c ≡ []
   command_sites Skips h = refl
@@ -157,7 +159,7 @@ mutual
   command_sites (Interacts [] Write (a ∷ e ∷ [])) h = refl
   command_sites _ h = absurd h
 
-  block_sites : (b : Command) → IsSmallBlock b → sites b ≡ []
+  pub block_sites : (b : Command) → IsSmallBlock b → sites b ≡ []
   block_sites Ends h = refl
   block_sites (Then c b) h = both_empty (sites c) (sites b) (command_sites c h.0) (block_sites b h.1)
   block_sites _ h = absurd h

@@ -9,7 +9,7 @@ use Rattle.lb_syntax.specs.declared.layout.FrameLayout.{FrameLayout}
 use Rattle.lb_syntax.specs.declared.layout.Layout.{Layout}
 use Rattle.lb_small_code.specs.Slots.{with_names, slot_names, frame_words, layout_of}
 use Rattle.lb_small_code.proofs.NameLemmas.{length-with_names}
-use Rattle.lb_small_compile.proofs.SmallParts.{block_sites}
+use Rattle.lb_small_code.proofs.TheoremLemmas.{block_sites}
 
 abbrev HasJumps : Procedure → Type 0
 HasJumps f = greatest_jump f.body ≤ most_jump

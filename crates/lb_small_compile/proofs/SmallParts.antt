@@ -1,40 +1,18 @@
--- What a block of the part has in it: no blocks of memory, no calls, and accesses of their shapes.
+-- What a block of the part has in it: no calls, and accesses of their shapes.
 use Rattle.std.proofs.Common.{◌≡◌, zero, suc, List, [], ◌∷◌, ◌++◌, refl, arith, All}
 use Rattle.std.proofs.lemmas.List.Elements.{All-nil, All-append}
 use Rattle.lb_syntax.specs.declared.tree.Action.TheVariants.{Read, Write}
 use Rattle.lb_syntax.specs.Tree.{Command, Skips, Sets, Unsets, Chooses, Repeats, Interacts, Ends, Then}
-use Rattle.lb_syntax.specs.Needs.{sites}
 use Rattle.lb_syntax.specs.Calls.{calls, accesses}
 use Rattle.lb_syntax.specs.Rules.{IsGoodAccess}
 use Rattle.lb_syntax.specs.Small.{IsSmallCommand, IsSmallBlock}
+use Rattle.lb_small_code.proofs.TheoremLemmas.{both_empty}
 
 All-one : {A : Type 0} (P : A → Type 0) (x : A) → P x → All P (x ∷ [])
 All-one P x p zero d h = p
 All-one P x p (suc k) d h = absurd (omega arith)
 
--- a list of two empty parts
-both_empty : {A : Type 0} (xs ys : List A) → xs ≡ [] → ys ≡ [] → xs ++ ys ≡ []
-both_empty [] ys h k = k
-both_empty (x ∷ xs) ys h k = cc
-
--- the part has no blocks of memory
-mutual
-  command_sites : (c : Command) → IsSmallCommand c → sites c ≡ []
-  command_sites Skips h = refl
-  command_sites (Sets x e) h = refl
-  command_sites (Unsets x) h = refl
-  command_sites (Chooses e b d) h = both_empty (sites b) (sites d) (block_sites b h.1) (block_sites d h.2)
-  command_sites (Repeats e b) h = block_sites b h.1
-  command_sites (Interacts (x ∷ []) Read (e ∷ [])) h = refl
-  command_sites (Interacts [] Write (a ∷ e ∷ [])) h = refl
-  command_sites _ h = absurd h
-
-  pub block_sites : (b : Command) → IsSmallBlock b → sites b ≡ []
-  block_sites Ends h = refl
-  block_sites (Then c b) h = both_empty (sites c) (sites b) (command_sites c h.0) (block_sites b h.1)
-  block_sites _ h = absurd h
-
--- it has no calls
+-- the part has no calls
 mutual
   command_calls : (c : Command) → IsSmallCommand c → calls c ≡ []
   command_calls Skips h = refl

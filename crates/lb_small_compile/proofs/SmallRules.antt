@@ -9,7 +9,8 @@ use Rattle.lb_syntax.specs.Calls.{CallSite, callees, IsCallPath, IsRecursive, pa
 use Rattle.lb_syntax.specs.Rules.{function_names, IsBlockSize, IsGoodCall, KeepsFunctionRules, KeepsRules}
 use Rattle.lb_syntax.specs.Small.{IsSmallProcedure}
 use Rattle.lb_small_code.specs.Part.{IsInPart}
-use Rattle.lb_small_compile.proofs.SmallParts.{block_sites, block_calls, block_accesses}
+use Rattle.lb_small_code.proofs.TheoremLemmas.{block_sites}
+use Rattle.lb_small_compile.proofs.SmallParts.{block_calls, block_accesses}
 
 All-two : {A : Type 0} (P : A → Type 0) (x y : A) → P x → P y → All P (x ∷ y ∷ [])
 All-two P x y p q zero d h = p
