@@ -1,4 +1,5 @@
 pub mod Devices
+pub mod Frame
 pub mod Hex
 pub mod Prefix
 pub mod Trace

@@ -7,11 +7,13 @@ ghost use Rattle.lb_trace.specs.Trace.{reply_values};
 
 mod devices;
 mod events;
+mod frame;
 mod hex;
 mod print;
 
 pub use devices::is_device_address;
 pub use events::Trace;
+pub use frame::Frame;
 pub use hex::hex_digits;
 pub use print::{append_trace, print_trace};
 use std::alloc::{AllocError, Global};
