@@ -1,18 +1,11 @@
--- The commands of a block in text order, against its calls, its accesses, its blocks of memory and its branches.
-use Rattle.std.proofs.Common.{◌≡◌, ℕ, ◌≤◌, nat_lt, List, [], ◌∷◌, ◌++◌, refl, sym, ap, ◌∙◌, arith, lit≤}
+-- The commands of a block in text order, against its calls, its accesses and its blocks of memory.
+use Rattle.std.proofs.Common.{◌≡◌, ℕ, List, [], ◌∷◌, ◌++◌, refl, sym, ap, ◌∙◌}
 use Rattle.std.specs.Prelude.{flat_map}
 use Rattle.std.proofs.lemmas.Grind.{flat_map-append}
-use Rattle.lb_syntax.specs.Names.{Text}
-use Rattle.lb_syntax.specs.Tree.{Procedure}
 use Rattle.lb_syntax.specs.Tree.{Command, Allocates, Chooses, Repeats, Calls, Interacts, Then}
-use Rattle.lb_syntax.specs.Needs.{sites, jump_need, greatest_jump, most_jump}
+use Rattle.lb_syntax.specs.Needs.{sites}
 use Rattle.lb_syntax.specs.Calls.{CallSite, AccessSite, calls, accesses}
-use Rattle.lb_check.specs.declared.fault.CheckFault.{CheckFault}
-use Rattle.lb_check.specs.declared.fault.CheckFault.TheVariants.{JumpNeed}
-use Rattle.lb_check.specs.declared.rule.CommandRule.TheVariants as rule
 use Rattle.lb_check.specs.Order.{commands}
-use Rattle.lb_check.specs.Faults.{where_true, command_faults}
-use Rattle.lb_check.proofs.NoFaults.{where_none, none_where, over, within, both_none, none_both}
 
 -- what a command is, those that stand in it aside
 abbrev pub own_calls : Command → List CallSite
@@ -52,50 +45,3 @@ sites_listed (Chooses e b d) = two own_sites (sites b) (sites d) b d (sites_list
 sites_listed (Repeats e b) = sites_listed b
 sites_listed (Then c b) = two own_sites (sites c) (sites b) c b (sites_listed c) (sites_listed b)
 sites_listed _ = refl
-
--- the branches of a block are within their limit where its greatest is
-module _ (p : List Procedure) (f : Text) where
-  abbrev told : Command → List CheckFault
-  told = command_faults rule.JumpNeed p f
-
-  own_jump : (n : ℕ) → where_true (nat_lt most_jump n) (JumpNeed f n) ≡ [] → n ≤ most_jump
-  own_jump n h = over most_jump n (where_none (nat_lt most_jump n) (JumpNeed f n) h)
-
-  jump_own : (n : ℕ) → n ≤ most_jump → where_true (nat_lt most_jump n) (JumpNeed f n) ≡ []
-  jump_own n h = none_where (nat_lt most_jump n) (JumpNeed f n) (within most_jump n h)
-
-  pub jumps_kept : (c : Command) → flat_map told (commands c) ≡ [] → greatest_jump c ≤ most_jump
-  jumps_kept (Allocates n x b) h = jumps_kept b (both_none (told (Allocates n x b)) (flat_map told (commands b)) h).1
-  jumps_kept (Chooses e b d) h =
-      let own = both_none (told (Chooses e b d)) (flat_map told (commands b ++ commands d)) h in
-      let inner = both_none (flat_map told (commands b)) (flat_map told (commands d)) (sym (flat_map-append told (commands b) (commands d)) ∙ own.1) in
-      let j = own_jump (jump_need (Chooses e b d)) own.0 in
-      let k = jumps_kept b inner.0 in
-      let m = jumps_kept d inner.1 in omega (arith, j, k, m)
-  jumps_kept (Repeats e b) h =
-      let own = both_none (told (Repeats e b)) (flat_map told (commands b)) h in
-      let j = own_jump (jump_need (Repeats e b)) own.0 in
-      let k = jumps_kept b own.1 in omega (arith, j, k)
-  jumps_kept (Then c b) h =
-      let inner = both_none (flat_map told (commands c)) (flat_map told (commands b)) (sym (flat_map-append told (commands c) (commands b)) ∙ h) in
-      let j = jumps_kept c inner.0 in
-      let k = jumps_kept b inner.1 in omega (arith, j, k)
-  jumps_kept _ h = lit≤ tt
-
-  pub kept_jumps : (c : Command) → greatest_jump c ≤ most_jump → flat_map told (commands c) ≡ []
-  kept_jumps (Allocates n x b) h = none_both (told (Allocates n x b)) (flat_map told (commands b)) refl (kept_jumps b h)
-  kept_jumps (Chooses e b d) h =
-      let j : jump_need (Chooses e b d) ≤ most_jump = omega (arith, h) in
-      let k : greatest_jump b ≤ most_jump = omega (arith, h) in
-      let m : greatest_jump d ≤ most_jump = omega (arith, h) in
-      none_both (told (Chooses e b d)) (flat_map told (commands b ++ commands d)) (jump_own (jump_need (Chooses e b d)) j)
-      (flat_map-append told (commands b) (commands d) ∙ none_both (flat_map told (commands b)) (flat_map told (commands d)) (kept_jumps b k) (kept_jumps d m))
-  kept_jumps (Repeats e b) h =
-      let j : jump_need (Repeats e b) ≤ most_jump = omega (arith, h) in
-      let k : greatest_jump b ≤ most_jump = omega (arith, h) in
-      none_both (told (Repeats e b)) (flat_map told (commands b)) (jump_own (jump_need (Repeats e b)) j) (kept_jumps b k)
-  kept_jumps (Then c b) h =
-      let j : greatest_jump c ≤ most_jump = omega (arith, h) in
-      let k : greatest_jump b ≤ most_jump = omega (arith, h) in
-      flat_map-append told (commands c) (commands b) ∙ none_both (flat_map told (commands c)) (flat_map told (commands b)) (kept_jumps c j) (kept_jumps b k)
-  kept_jumps _ h = refl

@@ -6,14 +6,15 @@ use Rattle.std.specs.List.{list_any}
 use Rattle.std.specs.Str.{bytes_eq}
 use Rattle.std.proofs.lemmas.Bool.{and_parts, and_from}
 use Rattle.std.proofs.lemmas.List.Elements.{All-nil, All-cons, All-head, All-tail}
+use Rattle.lb_syntax.specs.declared.limits.TheConstants.{MOST_FRAME, MOST_PARAMS, MOST_RESULTS}
 use Rattle.lb_syntax.specs.Names.{Text, is_among, AreDistinct}
 use Rattle.lb_syntax.proofs.DistinctLemmas.{bytes_eq-same, bytes_eq-refl}
 use Rattle.lb_syntax.specs.declared.tree.Action.{Action}
 use Rattle.lb_syntax.specs.declared.tree.Action.TheVariants.{Read, Write}
 use Rattle.lb_syntax.specs.Tree.{Procedure, Command, Allocates, Calls, Interacts}
-use Rattle.lb_syntax.specs.Needs.{frame_need, sites, most_frame}
+use Rattle.lb_syntax.specs.Needs.{frame_need, sites}
 use Rattle.lb_syntax.specs.Calls.{CallSite, AccessSite, calls, accesses}
-use Rattle.lb_syntax.specs.Rules.{function_names, most_params, most_results, HasEntryShape, IsBlockSize, Fits, HasShape, IsGoodAccess}
+use Rattle.lb_syntax.specs.Rules.{function_names, HasEntryShape, IsBlockSize, Fits, HasShape, IsGoodAccess}
 use Rattle.lb_check.specs.declared.fault.CheckFault.{CheckFault}
 use Rattle.lb_check.specs.declared.fault.CheckFault.TheVariants.{DuplicateName, EntryShape, TooManyParams, BadAllocSize, UnknownFunction, WrongArity, DuplicateTarget, BadIo, FrameNeed}
 use Rattle.lb_check.specs.declared.rule.FunctionRule.TheVariants as of_function
@@ -78,21 +79,21 @@ step_counts : (a b : Bool) (x y : CheckFault) → a ≡ false → b ≡ false �
 step_counts true b x y h k = cc
 step_counts false b x y h k = none_where b y k
 
-pub counts_kept : (f : Procedure) → function_faults of_function.Counts f ≡ [] → (length f.params ≤ most_params) × (length f.results ≤ most_results)
+pub counts_kept : (f : Procedure) → function_faults of_function.Counts f ≡ [] → (length f.params ≤ MOST_PARAMS) × (length f.results ≤ MOST_RESULTS)
 counts_kept f h =
-    let both = counts_step (nat_lt most_params (length f.params)) (nat_lt most_results (length f.results)) (TooManyParams f.name (length f.params)) (TooManyParams f.name (length f.results)) h in
-    (over most_params (length f.params) both.0, over most_results (length f.results) both.1)
+    let both = counts_step (nat_lt MOST_PARAMS (length f.params)) (nat_lt MOST_RESULTS (length f.results)) (TooManyParams f.name (length f.params)) (TooManyParams f.name (length f.results)) h in
+    (over MOST_PARAMS (length f.params) both.0, over MOST_RESULTS (length f.results) both.1)
 
-pub kept_counts : (f : Procedure) → length f.params ≤ most_params → length f.results ≤ most_results → function_faults of_function.Counts f ≡ []
+pub kept_counts : (f : Procedure) → length f.params ≤ MOST_PARAMS → length f.results ≤ MOST_RESULTS → function_faults of_function.Counts f ≡ []
 kept_counts f h k =
-    step_counts (nat_lt most_params (length f.params)) (nat_lt most_results (length f.results)) (TooManyParams f.name (length f.params)) (TooManyParams f.name (length f.results))
-    (within most_params (length f.params) h) (within most_results (length f.results) k)
+    step_counts (nat_lt MOST_PARAMS (length f.params)) (nat_lt MOST_RESULTS (length f.results)) (TooManyParams f.name (length f.params)) (TooManyParams f.name (length f.results))
+    (within MOST_PARAMS (length f.params) h) (within MOST_RESULTS (length f.results) k)
 
-pub frame_kept : (f : Procedure) → function_faults of_function.FrameNeed f ≡ [] → frame_need f ≤ most_frame
-frame_kept f h = over most_frame (frame_need f) (where_none (nat_lt most_frame (frame_need f)) (FrameNeed f.name (frame_need f)) h)
+pub frame_kept : (f : Procedure) → function_faults of_function.FrameNeed f ≡ [] → frame_need f ≤ MOST_FRAME
+frame_kept f h = over MOST_FRAME (frame_need f) (where_none (nat_lt MOST_FRAME (frame_need f)) (FrameNeed f.name (frame_need f)) h)
 
-pub kept_frame : (f : Procedure) → frame_need f ≤ most_frame → function_faults of_function.FrameNeed f ≡ []
-kept_frame f h = none_where (nat_lt most_frame (frame_need f)) (FrameNeed f.name (frame_need f)) (within most_frame (frame_need f) h)
+pub kept_frame : (f : Procedure) → frame_need f ≤ MOST_FRAME → function_faults of_function.FrameNeed f ≡ []
+kept_frame f h = none_where (nat_lt MOST_FRAME (frame_need f)) (FrameNeed f.name (frame_need f)) (within MOST_FRAME (frame_need f) h)
 
 -- numbers
 positive : (n : ℕ) → (n == 0) ≡ false → 0 < n

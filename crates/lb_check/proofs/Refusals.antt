@@ -3,10 +3,12 @@ use Rattle.std.proofs.Common.{ℕ, ◌≤◌, inl, inr, List, [], ◌∷◌, ◌
 use Rattle.std.specs.Prelude.{Err}
 use Rattle.std.specs.List.{AllByRecursion}
 use Rattle.std.proofs.lemmas.List.Elements.{All-contains, recursion_from_All, Contains-append_right}
+use Rattle.lb_syntax.specs.declared.limits.TheConstants.{MOST_FRAME}
+use Rattle.lb_memory.specs.declared.TheConstants.{MOST_STACK}
 use Rattle.lb_syntax.specs.Tree.{Procedure}
-use Rattle.lb_syntax.specs.Needs.{frame_need, most_frame}
+use Rattle.lb_syntax.specs.Needs.{frame_need}
 use Rattle.lb_syntax.specs.Calls.{IsRecursive, IsStackNeed}
-use Rattle.lb_syntax.specs.Rules.{KeepsRules, most_stack}
+use Rattle.lb_syntax.specs.Rules.{KeepsRules}
 use Rattle.lb_check.specs.declared.fault.CheckFault.{CheckFault}
 use Rattle.lb_check.specs.declared.fault.CheckError.{CheckError}
 use Rattle.lb_check.specs.declared.fault.CheckError.TheVariants.{Fault, Memory}
@@ -72,9 +74,9 @@ module _ (p : List Procedure) where
       → IsKept p FitsStack → KeepsRules p
   all_kept k m l s = rules_kept p (kept_both p form (NoRecursion ∷ (needs ++ FitsStack ∷ [])) k (m.0, kept_both p needs (FitsStack ∷ []) l (s, tt)))
 
-  pub small_frames : AllByRecursion (IsKept p) (map Keeps need_rules) → AllByRecursion (λ f. frame_need f ≤ most_frame) p
+  pub small_frames : AllByRecursion (IsKept p) (map Keeps need_rules) → AllByRecursion (λ f. frame_need f ≤ MOST_FRAME) p
   small_frames k =
-      recursion_from_All (λ (f : Procedure). frame_need f ≤ most_frame) p (all_from_none (function_faults FrameNeed) (λ (f : Procedure). frame_need f ≤ most_frame) p frame_kept k.0)
+      recursion_from_All (λ (f : Procedure). frame_need f ≤ MOST_FRAME) p (all_from_none (function_faults FrameNeed) (λ (f : Procedure). frame_need f ≤ MOST_FRAME) p frame_kept k.0)
 
-  pub stack_fits : (n : ℕ) → IsStackNeed p n → n ≤ most_stack → IsKept p FitsStack
+  pub stack_fits : (n : ℕ) → IsStackNeed p n → n ≤ MOST_STACK → IsKept p FitsStack
   stack_fits n need h path is_path = let most = need.greatest path is_path in omega (arith, most, h)

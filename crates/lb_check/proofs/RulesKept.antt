@@ -2,11 +2,12 @@
 use Rattle.std.proofs.Common.{◌≤◌, nat_lt, not, List, length, All}
 use Rattle.std.specs.Prelude.{codes, flat_map}
 use Rattle.std.specs.List.{AllByRecursion}
+use Rattle.lb_syntax.specs.declared.limits.TheConstants.{MOST_FRAME, MOST_FUNCTIONS, MOST_PARAMS, MOST_RESULTS, MOST_WORDS}
 use Rattle.lb_syntax.specs.Names.{is_among, AreDistinct}
 use Rattle.lb_syntax.specs.Tree.{Procedure}
-use Rattle.lb_syntax.specs.Needs.{code_need, frame_need, greatest_jump, sites, most_words, most_jump, most_frame}
+use Rattle.lb_syntax.specs.Needs.{code_need, frame_need, sites}
 use Rattle.lb_syntax.specs.Calls.{calls, accesses}
-use Rattle.lb_syntax.specs.Rules.{function_names, most_functions, most_params, most_results, HasEntryShape, IsBlockSize, IsGoodAccess, KeepsFunctionRules, KeepsRules}
+use Rattle.lb_syntax.specs.Rules.{function_names, HasEntryShape, IsBlockSize, IsGoodAccess, KeepsFunctionRules, KeepsRules}
 use Rattle.lb_check.specs.declared.fault.CheckFault.{CheckFault}
 use Rattle.lb_check.specs.declared.fault.CheckFault.TheVariants.{TooManyFunctions, DuplicateFunction, NoInit, NoLoop, CodeNeed}
 use Rattle.lb_check.specs.declared.rule.FunctionRule.TheVariants as of_function
@@ -17,7 +18,6 @@ use Rattle.lb_check.specs.Faults.{function_faults, command_faults}
 use Rattle.lb_check.specs.Verdict.{IsKept, questions}
 use Rattle.lb_check.proofs.NoFaults.{where_none, none_where, not_false, false_not, over, within, all_from_none, none_from_all}
 use Rattle.lb_check.proofs.NamesKept.{distinct_kept, kept_distinct, map_none, none_map, contains_among, among_contains}
-use Rattle.lb_check.proofs.CommandsKept.{jumps_kept, kept_jumps}
 use Rattle.lb_check.proofs.PlacesKept.{entry_kept, kept_entry, names_kept, kept_names, counts_kept, kept_counts, frame_kept, kept_frame, sizes_kept, kept_sizes, callees_kept, kept_callees, arities_kept, kept_arities, targets_kept, kept_targets, shapes_kept, kept_shapes, IsKnown, AllFit, HasTargets}
 
 module _ (p : List Procedure) where
@@ -29,16 +29,13 @@ module _ (p : List Procedure) where
   HasNames f = AreDistinct f.params × AreDistinct f.results
 
   abbrev HasCounts : Procedure → Type 0
-  HasCounts f = (length f.params ≤ most_params) × (length f.results ≤ most_results)
+  HasCounts f = (length f.params ≤ MOST_PARAMS) × (length f.results ≤ MOST_RESULTS)
 
   abbrev HasFrame : Procedure → Type 0
-  HasFrame f = frame_need f ≤ most_frame
-
-  abbrev HasJumps : Procedure → Type 0
-  HasJumps f = greatest_jump f.body ≤ most_jump
+  HasFrame f = frame_need f ≤ MOST_FRAME
 
   pub rules_kept : AllByRecursion (IsKept p) questions → KeepsRules p
-  rules_kept (count, (names, (own, (init, (again, (entry, (counts, (sizes, (known, (fit, (apart, (shapes, (ends, (frames, (jumps, (code, (stack, u))))))))))))))))) =
+  rules_kept (count, (names, (own, (init, (again, (entry, (counts, (sizes, (known, (fit, (apart, (shapes, (ends, (frames, (code, (stack, u)))))))))))))))) =
       let own_all = all_from_none (function_faults of_function.Names) HasNames p names_kept own in
       let entry_all = all_from_none (function_faults of_function.Entry) HasEntryShape p entry_kept entry in
       let counts_all = all_from_none (function_faults of_function.Counts) HasCounts p counts_kept counts in
@@ -48,7 +45,7 @@ module _ (p : List Procedure) where
       let apart_all = all_from_none (in_body of_command.Targets) (λ f. All HasTargets (calls f.body)) p (λ f. targets_kept p f.name f.body) apart in
       let shapes_all = all_from_none (in_body of_command.Access) (λ f. All IsGoodAccess (accesses f.body)) p (λ f. shapes_kept p f.name f.body) shapes in
       record {
-        few_functions = over most_functions (length p) (where_none (nat_lt most_functions (length p)) (TooManyFunctions (length p)) count);
+        few_functions = over MOST_FUNCTIONS (length p) (where_none (nat_lt MOST_FUNCTIONS (length p)) (TooManyFunctions (length p)) count);
         distinct_functions = distinct_kept (function_names p) (map_none (λ x. DuplicateFunction x) (repeated (function_names p)) names);
         has_init = contains_among (function_names p) (codes "init") (not_false (is_among (function_names p) (codes "init")) (where_none (not (is_among (function_names p) (codes "init"))) NoInit init));
         has_loop = contains_among (function_names p) (codes "loop") (not_false (is_among (function_names p) (codes "loop")) (where_none (not (is_among (function_names p) (codes "loop"))) NoLoop again));
@@ -64,8 +61,7 @@ module _ (p : List Procedure) where
           no_recursion = ends k d lt;
         };
         limits = record {
-          code = over most_words (code_need p) (where_none (nat_lt most_words (code_need p)) (CodeNeed (code_need p)) code);
-          jumps = all_from_none (in_body of_command.JumpNeed) HasJumps p (λ f. jumps_kept p f.name f.body) jumps;
+          code = over MOST_WORDS (code_need p) (where_none (nat_lt MOST_WORDS (code_need p)) (CodeNeed (code_need p)) code);
           frames = all_from_none (function_faults of_function.FrameNeed) HasFrame p frame_kept frames;
         };
         stack = stack;
@@ -74,7 +70,7 @@ module _ (p : List Procedure) where
   pub kept_rules : KeepsRules p → AllByRecursion (IsKept p) questions
   kept_rules r =
       let each = r.functions in (
-        none_where (nat_lt most_functions (length p)) (TooManyFunctions (length p)) (within most_functions (length p) r.few_functions),
+        none_where (nat_lt MOST_FUNCTIONS (length p)) (TooManyFunctions (length p)) (within MOST_FUNCTIONS (length p) r.few_functions),
         (
           none_map (λ x. DuplicateFunction x) (repeated (function_names p)) (kept_distinct (function_names p) r.distinct_functions),
           (
@@ -102,11 +98,8 @@ module _ (p : List Procedure) where
                                 (
                                   none_from_all (function_faults of_function.FrameNeed) HasFrame p kept_frame r.limits.frames,
                                   (
-                                    none_from_all (in_body of_command.JumpNeed) HasJumps p (λ f h. kept_jumps p f.name f.body h) r.limits.jumps,
-                                    (
-                                      none_where (nat_lt most_words (code_need p)) (CodeNeed (code_need p)) (within most_words (code_need p) r.limits.code),
-                                      (r.stack, tt),
-                                    ),
+                                    none_where (nat_lt MOST_WORDS (code_need p)) (CodeNeed (code_need p)) (within MOST_WORDS (code_need p) r.limits.code),
+                                    (r.stack, tt),
                                   ),
                                 ),
                               ),

@@ -2,14 +2,15 @@
 use Rattle.std.specs.Prelude.{ℕ, ◌+◌, ◌%◌, nat_lt, Bool, ◌&&◌, ◌||◌, ◌==◌, not, List, [], ◌∷◌, ◌++◌, length, map, flat_map, if◌then◌else◌, codes}
 use Rattle.std.specs.List.{list_any}
 use Rattle.std.specs.Str.{bytes_eq}
+use Rattle.lb_syntax.specs.declared.limits.TheConstants.{MOST_FRAME, MOST_FUNCTIONS, MOST_PARAMS, MOST_RESULTS, MOST_WORDS}
 use Rattle.lb_syntax.specs.Names.{Text, is_among}
 use Rattle.lb_syntax.specs.declared.tree.Action.{Action}
 use Rattle.lb_syntax.specs.declared.tree.Action.TheVariants.{Read, Write}
 use Rattle.lb_syntax.specs.Tree.{Procedure, Command, Allocates, Calls, Interacts}
-use Rattle.lb_syntax.specs.Needs.{code_need, most_words, jump_need, most_jump, frame_need, most_frame}
-use Rattle.lb_syntax.specs.Rules.{function_names, most_functions, most_params, most_results}
+use Rattle.lb_syntax.specs.Needs.{code_need, frame_need}
+use Rattle.lb_syntax.specs.Rules.{function_names}
 use Rattle.lb_check.specs.declared.fault.CheckFault.{CheckFault}
-use Rattle.lb_check.specs.declared.fault.CheckFault.TheVariants.{TooManyFunctions, DuplicateFunction, DuplicateName, NoInit, NoLoop, EntryShape, TooManyParams, BadAllocSize, UnknownFunction, WrongArity, DuplicateTarget, BadIo, FrameNeed, JumpNeed, CodeNeed}
+use Rattle.lb_check.specs.declared.fault.CheckFault.TheVariants.{TooManyFunctions, DuplicateFunction, DuplicateName, NoInit, NoLoop, EntryShape, TooManyParams, BadAllocSize, UnknownFunction, WrongArity, DuplicateTarget, BadIo, FrameNeed, CodeNeed}
 use Rattle.lb_check.specs.declared.rule.Rule.{Rule}
 use Rattle.lb_check.specs.declared.rule.Rule.TheVariants as rule
 use Rattle.lb_check.specs.declared.rule.FunctionRule.{FunctionRule}
@@ -42,14 +43,14 @@ has_shape Write targets arguments = targets == 0 && arguments == 2
 -- over 8 parameters, or else over 8 results
 abbrev pub count_faults : Text → ℕ → ℕ → List CheckFault
 count_faults f params results =
-    if nat_lt most_params params then TooManyParams f params ∷ [] else where_true (nat_lt most_results results) (TooManyParams f results)
+    if nat_lt MOST_PARAMS params then TooManyParams f params ∷ [] else where_true (nat_lt MOST_RESULTS results) (TooManyParams f results)
 
 -- the faults of one function by a rule on functions
 abbrev pub function_faults : FunctionRule → Procedure → List CheckFault
 function_faults of_function.Names f = map (DuplicateName f.name) (repeated f.params ++ repeated f.results)
 function_faults of_function.Entry f = where_true (is_entry f.name && not (length f.params + length f.results == 0)) (EntryShape f.name)
 function_faults of_function.Counts f = count_faults f.name (length f.params) (length f.results)
-function_faults of_function.FrameNeed f = where_true (nat_lt most_frame (frame_need f)) (FrameNeed f.name (frame_need f))
+function_faults of_function.FrameNeed f = where_true (nat_lt MOST_FRAME (frame_need f)) (FrameNeed f.name (frame_need f))
 
 -- the faults of one command of the function f of the program p by a rule on commands; the commands that stand in it have their own
 abbrev pub command_faults : CommandRule → List Procedure → Text → Command → List CheckFault
@@ -58,15 +59,14 @@ command_faults of_command.Callee p f (Calls xs g es) = where_true (not (is_among
 command_faults of_command.Arity p f (Calls xs g es) = where_true (has_misfit p g (length es) (length xs)) (WrongArity f g)
 command_faults of_command.Targets p f (Calls xs g es) = map (DuplicateTarget f) (repeated xs)
 command_faults of_command.Access p f (Interacts xs k es) = where_true (not (has_shape k (length xs) (length es))) (BadIo f)
-command_faults of_command.JumpNeed p f c = where_true (nat_lt most_jump (jump_need c)) (JumpNeed f (jump_need c))
 command_faults _ p f c = []
 
 -- the faults of a program by one rule, in text order
 abbrev pub faults : Rule → List Procedure → List CheckFault
-faults rule.FunctionCount p = where_true (nat_lt most_functions (length p)) (TooManyFunctions (length p))
+faults rule.FunctionCount p = where_true (nat_lt MOST_FUNCTIONS (length p)) (TooManyFunctions (length p))
 faults rule.FunctionNames p = map DuplicateFunction (repeated (function_names p))
 faults rule.Init p = where_true (not (is_among (function_names p) (codes "init"))) NoInit
 faults rule.Again p = where_true (not (is_among (function_names p) (codes "loop"))) NoLoop
-faults rule.CodeNeed p = where_true (nat_lt most_words (code_need p)) (CodeNeed (code_need p))
+faults rule.CodeNeed p = where_true (nat_lt MOST_WORDS (code_need p)) (CodeNeed (code_need p))
 faults (rule.OfFunction r) p = flat_map (function_faults r) p
 faults (rule.OfCommand r) p = flat_map (λ f. flat_map (command_faults r p f.name) (commands f.body)) p

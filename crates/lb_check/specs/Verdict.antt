@@ -1,9 +1,10 @@
 -- Which fault a program is refused for: that of the first rule that it breaks, at its first place.
 use Rattle.std.specs.Prelude.{◌≡◌, ℕ, ◌<◌, ◌≤◌, ◌⊎◌, List, [], ◌∷◌, ◌++◌, map, Result, Ok, Err, All}
 use Rattle.std.specs.List.{AllByRecursion}
+use Rattle.lb_memory.specs.declared.TheConstants.{MOST_STACK}
 use Rattle.lb_syntax.specs.Tree.{Procedure}
 use Rattle.lb_syntax.specs.Calls.{IsCallPath, IsRecursive, IsStackNeed, path_need}
-use Rattle.lb_syntax.specs.Rules.{KeepsRules, most_stack}
+use Rattle.lb_syntax.specs.Rules.{KeepsRules}
 use Rattle.lb_check.specs.declared.fault.CheckFault.{CheckFault}
 use Rattle.lb_check.specs.declared.fault.CheckFault.TheVariants.{Recursion, StackNeed}
 use Rattle.lb_check.specs.declared.fault.CheckError.{CheckError}
@@ -11,7 +12,7 @@ use Rattle.lb_check.specs.declared.fault.CheckError.TheVariants.{Fault, Memory}
 use Rattle.lb_check.specs.declared.rule.Rule.{Rule}
 use Rattle.lb_check.specs.declared.rule.Rule.TheVariants.{FunctionCount, FunctionNames, Init, Again, CodeNeed, OfFunction, OfCommand}
 use Rattle.lb_check.specs.declared.rule.FunctionRule.TheVariants.{Names, Entry, Counts, FrameNeed}
-use Rattle.lb_check.specs.declared.rule.CommandRule.TheVariants.{BlockSize, Callee, Arity, Targets, Access, JumpNeed}
+use Rattle.lb_check.specs.declared.rule.CommandRule.TheVariants.{BlockSize, Callee, Arity, Targets, Access}
 use Rattle.lb_check.specs.Faults.{faults}
 
 -- what is asked of a program: a rule that is decided place by place; that no path of calls leads back to its start; that the stack is within its limit
@@ -28,7 +29,7 @@ form_rules =
 
 -- the rules on its needs, the stack's aside
 abbrev pub need_rules : List Rule
-need_rules = OfFunction FrameNeed ∷ OfCommand JumpNeed ∷ CodeNeed ∷ []
+need_rules = OfFunction FrameNeed ∷ CodeNeed ∷ []
 
 -- all that is asked of a program, in order
 abbrev pub questions : List Question
@@ -38,7 +39,7 @@ questions = map Keeps form_rules ++ NoRecursion ∷ (map Keeps need_rules ++ Fit
 abbrev pub IsKept : List Procedure → Question → Type 0
 IsKept p (Keeps rule) = faults rule p ≡ []
 IsKept p NoRecursion = All (λ f. ¬ (IsRecursive p f)) p
-IsKept p FitsStack = (path : List Procedure) → IsCallPath p path → path_need path ≤ most_stack
+IsKept p FitsStack = (path : List Procedure) → IsCallPath p path → path_need path ≤ MOST_STACK
 
 -- the first of a list
 abbrev pub IsFirst : List CheckFault → CheckFault → Type 0
@@ -63,7 +64,7 @@ pub record IsFirstRecursive (p : List Procedure) (f : Procedure) : Type 0 where
 abbrev pub IsBroken : List Procedure → Question → CheckFault → Type 0
 IsBroken p (Keeps rule) fault = IsFirst (faults rule p) fault
 IsBroken p NoRecursion fault = (f : Procedure) × IsFirstRecursive p f × (fault ≡ Recursion f.name)
-IsBroken p FitsStack fault = (n : ℕ) × IsStackNeed p n × (most_stack < n) × (fault ≡ StackNeed n)
+IsBroken p FitsStack fault = (n : ℕ) × IsStackNeed p n × (MOST_STACK < n) × (fault ≡ StackNeed n)
 
 -- the fault is that of the first of these questions whose answer is no
 abbrev pub IsFirstBroken : List Procedure → List Question → CheckFault → Type 0

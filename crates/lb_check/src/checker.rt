@@ -7,8 +7,8 @@ ghost use Rattle.lb_check.specs.Parts.{parts};
 ghost use Rattle.lb_check.specs.Verdict.{IsRefusal};
 
 use crate::checked::{Checked, Needs};
-use crate::counts::code_need;
 use crate::fault::CheckError;
+use crate::needs::code_need;
 use crate::rules::{FORM_RULES, NEED_RULES, check_rules};
 use crate::stack::{check_cycles, check_stack, graph_of};
 use lb_syntax::{Function, Program};
@@ -39,6 +39,6 @@ fn check_all(alloc: Global, functions: &[Function]) -> Result<Needs, CheckError>
     check_cycles(alloc, functions, &graph)?;
     check_rules(alloc, &NEED_RULES, functions)?;
     let stack = check_stack(alloc, functions, &graph)?;
-    let words = code_need(functions);
+    let words = code_need(alloc, functions)?;
     Ok(Needs { words, stack })
 }

@@ -6,16 +6,12 @@ ghost use Rattle.lb_check.specs.Order.{commands, repeated};
 ghost use Rattle.lb_check.specs.Faults.{has_shape, command_faults, faults};
 ghost use Rattle.lb_check.specs.Verdict.{Tells};
 
-use crate::counts::jump_need;
 use crate::fault::{CheckError, CheckFault};
 use crate::lookup::{has_function, has_misfit};
 use crate::names::first_repeated;
 use crate::rule::{CommandRule, Rule};
 use lb_syntax::{Action, Block, Cmd, Expr, Function, Name};
 use std::alloc::Global;
-
-// The most bytes that a branch may have to pass.
-const MOST_JUMP: u64 = 4_080;
 
 /// Whether every command of these functions keeps the rule.
 pub fn check_commands(
@@ -92,7 +88,6 @@ fn check_place(
         CommandRule::Arity => check_arity(alloc, c, functions, function),
         CommandRule::Targets => check_targets(alloc, c, function),
         CommandRule::Access => check_access(alloc, c, function),
-        CommandRule::JumpNeed => check_jump(alloc, c, function),
     }
 }
 
@@ -182,19 +177,6 @@ fn check_target_names(alloc: Global, targets: &[Name], function: &Name) -> Resul
             Err(CheckError::Fault(CheckFault::DuplicateTarget { function, name }))
         }
     }
-}
-
-// Whether a branch is within its limit.
-fn check_jump(alloc: Global, c: &Cmd, function: &Name) -> Result<(), CheckError>
-    requires { body_parts (command_of c.now) < 2 ^ 30 }
-    ensures { (p : List Procedure) → Tells (command_faults CommandRule.JumpNeed p function.now (command_of c.now)) result }
-{
-    let bytes = jump_need(c);
-    if bytes > MOST_JUMP {
-        let function = function.copy(alloc)?;
-        return Err(CheckError::Fault(CheckFault::JumpNeed { function, bytes }));
-    }
-    Ok(())
 }
 
 // Whether an access has its action's shape.

@@ -1,14 +1,12 @@
-// How many words of code a program asks for, how deep its expressions are, and how many bytes its blocks of memory have.
+// How many words of code a function asks for, how deep its expressions are, and how many bytes its blocks of memory have.
 ghost use Rattle.std.specs.Prelude.{◌≡◌, ◌<◌, ◌≤◌, ◌+◌, ◌*◌, ◌^◌, map, sum, length};
 ghost use Rattle.lb_syntax.specs.Tree.{term_of, command_of, block_of, procedure_of};
-ghost use Rattle.lb_syntax.specs.Needs.{nodes, terms_words, words, procedure_words, code_need, jump_need, depth, greatest, greatest_depth, sites};
-ghost use Rattle.lb_check.specs.Parts.{body_parts, function_parts, parts};
+ghost use Rattle.lb_syntax.specs.Needs.{nodes, terms_words, words, procedure_words, depth, greatest, greatest_depth, sites};
+ghost use Rattle.lb_check.specs.Parts.{body_parts, function_parts};
 
 use lb_syntax::{Block, Cmd, Expr, Function};
 
-// Words of a program and of each of its functions, beside those of its commands.
-const PROGRAM_WORDS: u64 = 16;
-
+// Words of a function beside those of its commands.
 const FUNCTION_WORDS: u64 = 80;
 
 // Words of a command, of each node of an expression, and of each argument, target, parameter and result.
@@ -17,9 +15,6 @@ const COMMAND_WORDS: u64 = 8;
 const NODE_WORDS: u64 = 6;
 
 const PASSED_WORDS: u64 = 4;
-
-/// Bytes of a word.
-pub const WORD_BYTES: u64 = 4;
 
 // The literals, variables, loads and operations of an expression.
 fn nodes_of(e: &Expr) -> u64
@@ -106,43 +101,14 @@ fn words_of_command(c: &Cmd) -> u64
     }
 }
 
-// The words of a function.
-fn words_of_function(f: &Function) -> u64
+/// The words of a function, its slots within reach.
+pub fn words_of_function(f: &Function) -> u64
     requires { function_parts (procedure_of f.now) < 2 ^ 30 }
     ensures value { result ≡ procedure_words (procedure_of f.now) }
     ensures few { result ≤ 80 * function_parts (procedure_of f.now) }
 {
     let passed = f.params.len() as u64 + f.results.len() as u64;
     FUNCTION_WORDS + PASSED_WORDS * passed + words_of_block(&f.body)
-}
-
-/// The words of code that a program of these functions asks for.
-pub fn code_need(functions: &[Function]) -> u64
-    requires { parts (map procedure_of functions.now) < 2 ^ 30 }
-    ensures { result ≡ code_need (map procedure_of functions.now) }
-{
-    let mut count = PROGRAM_WORDS;
-    for f in functions {
-        count += words_of_function(f);
-    }
-    count
-}
-
-/// How many bytes the branches of this one command may have to pass.
-pub fn jump_need(c: &Cmd) -> u64
-    requires { body_parts (command_of c.now) < 2 ^ 30 }
-    ensures { result ≡ jump_need (command_of c.now) }
-{
-    match c {
-        Cmd::If { condition, yes, no } => {
-            let longer = words_of_block(yes).max(words_of_block(no));
-            WORD_BYTES * (NODE_WORDS * nodes_of(condition) + longer)
-        }
-        Cmd::While { condition, body } => {
-            WORD_BYTES * (NODE_WORDS * nodes_of(condition) + words_of_block(body))
-        }
-        _ => 0,
-    }
 }
 
 // How deep an expression nests.

@@ -47,12 +47,9 @@ pub enum CheckFault {
     /// The first function from which a path of calls leads back to it.
     #[error("a path of calls leads from a function back to it")]
     Recursion { function: Name },
-    /// The function's frame needs this many bytes, over 2,032.
-    #[error("a frame of {bytes} bytes, over 2032")]
+    /// The function's frame needs this many bytes, over 32,768.
+    #[error("a frame of {bytes} bytes, over 32768")]
     FrameNeed { function: Name, bytes: u64 },
-    /// The branches of an `if` or a `while` may have to pass this many bytes, over 4,080.
-    #[error("a branch over {bytes} bytes, over 4080")]
-    JumpNeed { function: Name, bytes: u64 },
     /// The code needs this many words of 4 bytes, over 32,768.
     #[error("{words} words of code, over 32768")]
     CodeNeed { words: u64 },

@@ -1,29 +1,17 @@
 // The rules on functions.
 ghost use Rattle.std.specs.Prelude.{◌≡◌, ◌<◌, ◌^◌, map, IfOk};
 ghost use Rattle.lb_syntax.specs.Tree.{procedure_of};
-ghost use Rattle.lb_syntax.specs.Needs.{frame_need};
 ghost use Rattle.lb_check.specs.Order.{repeated};
 ghost use Rattle.lb_check.specs.Parts.{function_parts, parts};
 ghost use Rattle.lb_check.specs.Faults.{is_entry, count_faults, function_faults, faults};
 ghost use Rattle.lb_check.specs.Verdict.{Tells};
 
-use crate::counts::{WORD_BYTES, depth_of_block, memory_of_block};
 use crate::fault::{CheckError, CheckFault};
-use crate::names::{count_variables, first_repeated};
+use crate::names::first_repeated;
+use crate::needs::frame_need;
 use crate::rule::{FunctionRule, Rule};
-use lb_syntax::{Function, Name};
-use std::alloc::{AllocError, Global};
-
-// The most parameters and the most results of a function.
-const MOST_PARAMS: usize = 8;
-
-const MOST_RESULTS: usize = 8;
-
-// The most bytes of a frame.
-const MOST_FRAME: u64 = 2_032;
-
-// Words of a frame beside those of variables and operands.
-const FRAME_WORDS: u64 = 34;
+use lb_syntax::{Function, MOST_FRAME, MOST_PARAMS, MOST_RESULTS, Name};
+use std::alloc::Global;
 
 /// Whether every one of these functions keeps the rule.
 pub fn check_functions(
@@ -48,7 +36,7 @@ fn check_function(alloc: Global, rule: FunctionRule, f: &Function) -> Result<(),
     match rule {
         FunctionRule::Names => check_names(alloc, f),
         FunctionRule::Entry => check_entry(alloc, f),
-        FunctionRule::Counts => { check_counts(alloc, &f.name, f.params.len(), f.results.len()) }
+        FunctionRule::Counts => { check_counts(alloc, &f.name, f.params.len() as u64, f.results.len() as u64) }
         FunctionRule::FrameNeed => check_frame(alloc, f),
     }
 }
@@ -98,12 +86,12 @@ fn is_entry(name: &Name) -> bool
 fn check_counts(
     alloc: Global,
     function: &Name,
-    params: usize,
-    results: usize,
+    params: u64,
+    results: u64,
 ) -> Result<(), CheckError>
     ensures { Tells (count_faults function.now params results) result }
 {
-    let most = if params > MOST_PARAMS {
+    let count = if params > MOST_PARAMS {
         params
     } else if results > MOST_RESULTS {
         results
@@ -111,7 +99,6 @@ fn check_counts(
         return Ok(());
     };
     let function = function.copy(alloc)?;
-    let count = most as u64;
     Err(CheckError::Fault(CheckFault::TooManyParams { function, count }))
 }
 
@@ -126,13 +113,4 @@ fn check_frame(alloc: Global, f: &Function) -> Result<(), CheckError>
         return Err(CheckError::Fault(CheckFault::FrameNeed { function, bytes }));
     }
     Ok(())
-}
-
-/// The bytes of a function's frame.
-pub fn frame_need(alloc: Global, f: &Function) -> Result<u64, AllocError>
-    requires { function_parts (procedure_of f.now) < 2 ^ 30 }
-    ensures { IfOk result (λ bytes. bytes ≡ frame_need (procedure_of f.now)) }
-{
-    let words = count_variables(alloc, f)? + depth_of_block(&f.body) + FRAME_WORDS;
-    Ok(memory_of_block(&f.body) + WORD_BYTES * words)
 }

@@ -9,6 +9,7 @@ mod fault;
 mod functions;
 mod lookup;
 mod names;
+mod needs;
 mod rule;
 mod rules;
 mod stack;

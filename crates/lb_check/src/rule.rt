@@ -26,8 +26,6 @@ pub enum CommandRule {
     Targets,
     /// An access has its action's shape.
     Access,
-    /// A branch is within its limit.
-    JumpNeed,
 }
 
 /// A rule of the language.

@@ -8,13 +8,13 @@ ghost use Rattle.lb_check.specs.Faults.{where_true, faults};
 ghost use Rattle.lb_check.specs.Verdict.{Keeps, Tells, Settles};
 
 use crate::commands::check_commands;
-use crate::counts::code_need;
 use crate::fault::{CheckError, CheckFault};
 use crate::functions::check_functions;
 use crate::lookup::has_function;
 use crate::names::{first_repeated, names_of};
+use crate::needs::code_need;
 use crate::rule::{CommandRule, FunctionRule, Rule};
-use lb_syntax::Function;
+use lb_syntax::{Function, MOST_FUNCTIONS, MOST_WORDS};
 use std::alloc::Global;
 
 /// The rules on the form of a program, in the order in which they are asked.
@@ -34,16 +34,7 @@ pub const FORM_RULES: [Rule; 12] = [
 ];
 
 /// The rules on the needs of a program, the stack's aside.
-pub const NEED_RULES: [Rule; 3] = [
-    Rule::OfFunction(FunctionRule::FrameNeed),
-    Rule::OfCommand(CommandRule::JumpNeed),
-    Rule::CodeNeed,
-];
-
-// The most functions, and the most words of code.
-const MOST_FUNCTIONS: usize = 256;
-
-const MOST_WORDS: u64 = 32_768;
+pub const NEED_RULES: [Rule; 2] = [Rule::OfFunction(FunctionRule::FrameNeed), Rule::CodeNeed];
 
 /// Whether these functions keep these rules, in their order.
 pub fn check_rules(alloc: Global, rules: &[Rule], functions: &[Function]) -> Result<(), CheckError>
@@ -65,7 +56,7 @@ fn check_rule(alloc: Global, rule: Rule, functions: &[Function]) -> Result<(), C
         Rule::FunctionCount => {
             let count = functions.len() as u64;
             refuse_if(
-                functions.len() > MOST_FUNCTIONS,
+                count > MOST_FUNCTIONS,
                 CheckFault::TooManyFunctions { count },
             )
         }
@@ -79,7 +70,7 @@ fn check_rule(alloc: Global, rule: Rule, functions: &[Function]) -> Result<(), C
             CheckFault::NoLoop,
         ),
         Rule::CodeNeed => {
-            let words = code_need(functions);
+            let words = code_need(alloc, functions)?;
             refuse_if(words > MOST_WORDS, CheckFault::CodeNeed { words })
         }
         Rule::OfFunction(rule) => check_functions(alloc, rule, functions),

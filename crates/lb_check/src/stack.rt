@@ -1,28 +1,27 @@
 // Calls that lead back to their function, and the stack that the calls need.
 ghost use Rattle.std.specs.Prelude.{◌≡◌, ◌<◌, ◌≤◌, ◌^◌, [], ◌∷◌, ◌++◌, map, length, IfOk, OnOk, IfErr, Err};
 ghost use Rattle.std.specs.List.{AllByRecursion};
+ghost use Rattle.lb_syntax.specs.declared.limits.TheConstants.{MOST_FRAME, MOST_FUNCTIONS};
+ghost use Rattle.lb_memory.specs.declared.TheConstants.{MOST_STACK};
 ghost use Rattle.lb_syntax.specs.Tree.{command_of, block_of, procedure_of};
 ghost use Rattle.lb_syntax.specs.Calls.{IsStackNeed};
-ghost use Rattle.lb_syntax.specs.Needs.{frame_need, most_frame};
-ghost use Rattle.lb_syntax.specs.Rules.{most_functions, most_stack};
+ghost use Rattle.lb_syntax.specs.Needs.{frame_need};
 ghost use Rattle.lb_graph.specs.Paths.{IsAcyclic};
 ghost use Rattle.lb_check.specs.Parts.{parts};
 ghost use Rattle.lb_check.specs.Places.{places_from, called, call_graph};
 ghost use Rattle.lb_check.specs.Verdict.{NoRecursion, FitsStack, Settles};
 
 use crate::fault::{CheckError, CheckFault};
-use crate::functions::frame_need;
+use crate::needs::frame_need;
 use lb_graph::{Graph, first_on_cycle, greatest_weight};
+use lb_memory::MOST_STACK;
 use lb_syntax::{Block, Cmd, Function, Name};
 use sqlite_items::Items;
 use std::alloc::{AllocError, Global};
 
-// The most bytes of stack.
-const MOST_STACK: u64 = 65_536;
-
 /// The graph of calls, whose nodes are the places of these functions.
 pub fn graph_of(alloc: Global, functions: &[Function]) -> Result<Graph, AllocError>
-    requires { length functions.now ≤ most_functions }
+    requires { length functions.now ≤ MOST_FUNCTIONS }
     ensures { IfOk result (λ graph. graph.calls ≡ call_graph (map procedure_of functions.now)) }
 {
     let mut calls = Items::new(alloc);
@@ -41,7 +40,7 @@ fn add_block(
     functions: &[Function],
     block: &Block,
 ) -> Result<(), AllocError>
-    requires { length functions.now ≤ most_functions }
+    requires { length functions.now ≤ MOST_FUNCTIONS }
     ensures { OnOk result (nodes.new ≡ nodes.old ++ called (map procedure_of functions.now) (block_of block.now)) }
 {
     for c in block.commands.as_slice() {
@@ -53,7 +52,7 @@ fn add_block(
 // The places of the functions that a command calls.
 #[cycle(add)]
 fn add_command(nodes: &mut Items<u16>, functions: &[Function], c: &Cmd) -> Result<(), AllocError>
-    requires { length functions.now ≤ most_functions }
+    requires { length functions.now ≤ MOST_FUNCTIONS }
     ensures { OnOk result (nodes.new ≡ nodes.old ++ called (map procedure_of functions.now) (command_of c.now)) }
 {
     match c {
@@ -71,7 +70,7 @@ fn add_command(nodes: &mut Items<u16>, functions: &[Function], c: &Cmd) -> Resul
 
 // The places of the functions with this name.
 fn add_places(nodes: &mut Items<u16>, functions: &[Function], name: &Name) -> Result<(), AllocError>
-    requires { length functions.now ≤ most_functions }
+    requires { length functions.now ≤ MOST_FUNCTIONS }
     ensures { OnOk result (nodes.new ≡ nodes.old ++ places_from 0 (map procedure_of functions.now) name.now) }
 {
     let mut place = 0;
@@ -102,12 +101,12 @@ pub fn check_cycles(alloc: Global, functions: &[Function], graph: &Graph) -> Res
 /// The bytes of stack that these functions need, where they are within the limit, for the graph of their calls.
 pub fn check_stack(alloc: Global, functions: &[Function], graph: &Graph) -> Result<u64, CheckError>
     requires small { parts (map procedure_of functions.now) < 2 ^ 30 }
-    requires few { length functions.now ≤ most_functions }
-    requires frames { AllByRecursion (λ f. frame_need f ≤ most_frame) (map procedure_of functions.now) }
+    requires few { length functions.now ≤ MOST_FUNCTIONS }
+    requires frames { AllByRecursion (λ f. frame_need f ≤ MOST_FRAME) (map procedure_of functions.now) }
     requires graph { graph.now.calls ≡ call_graph (map procedure_of functions.now) }
     requires acyclic { IsAcyclic graph.now.calls }
     ensures need { IfOk result (λ bytes. IsStackNeed (map procedure_of functions.now) bytes) }
-    ensures within { IfOk result (λ bytes. bytes ≤ most_stack) }
+    ensures within { IfOk result (λ bytes. bytes ≤ MOST_STACK) }
     ensures over { IfErr result (λ e. Settles (map procedure_of functions.now) (FitsStack ∷ []) (Err e)) }
 {
     let frames = frames_of(alloc, functions)?;
@@ -121,7 +120,7 @@ pub fn check_stack(alloc: Global, functions: &[Function], graph: &Graph) -> Resu
 // The bytes of each function's frame.
 fn frames_of(alloc: Global, functions: &[Function]) -> Result<Vec<u32>, AllocError>
     requires small { parts (map procedure_of functions.now) < 2 ^ 30 }
-    requires frames { AllByRecursion (λ f. frame_need f ≤ most_frame) (map procedure_of functions.now) }
+    requires frames { AllByRecursion (λ f. frame_need f ≤ MOST_FRAME) (map procedure_of functions.now) }
     ensures { IfOk result (λ frames. frames.items ≡ map frame_need (map procedure_of functions.now)) }
 {
     let mut frames = Vec::new(alloc);

@@ -1,7 +1,8 @@
 // The layout of a checked program, the blocks of each frame one after another.
 ghost use Rattle.std.specs.Prelude.{◌≡◌, ◌≤◌, ◌++◌, map, sum, All, IfOk, OnOk};
+ghost use Rattle.lb_syntax.specs.declared.limits.TheConstants.{MOST_FRAME};
 ghost use Rattle.lb_syntax.specs.Tree.{command_of, block_of, procedure_of, program_of};
-ghost use Rattle.lb_syntax.specs.Needs.{sites, frame_need, most_frame};
+ghost use Rattle.lb_syntax.specs.Needs.{sites, frame_need};
 ghost use Rattle.lb_syntax.specs.Layouts.{IsValidLayout};
 ghost use Rattle.lb_handmade.specs.Packed.{packed, packed_frames};
 
@@ -21,7 +22,7 @@ pub fn packed_layout(alloc: Global, program: &Checked) -> Result<Layout, AllocEr
 
 // A frame for each function.
 fn frames_of(alloc: Global, functions: &[Function]) -> Result<Items<FrameLayout>, AllocError>
-    requires { All (λ f. frame_need f ≤ most_frame) (map procedure_of functions.now) }
+    requires { All (λ f. frame_need f ≤ MOST_FRAME) (map procedure_of functions.now) }
     ensures { IfOk result (λ frames. frames ≡ packed_frames (map procedure_of functions.now)) }
 {
     let mut frames = Items::new(alloc);
@@ -33,7 +34,7 @@ fn frames_of(alloc: Global, functions: &[Function]) -> Result<Items<FrameLayout>
 
 // The frame of a body.
 fn frame_of(alloc: Global, body: &Block) -> Result<FrameLayout, AllocError>
-    requires { sum (sites (block_of body.now)) ≤ most_frame }
+    requires { sum (sites (block_of body.now)) ≤ MOST_FRAME }
     ensures { IfOk result (λ frame. frame ≡ packed (sites (block_of body.now))) }
 {
     let mut sizes = Vec::new(alloc);
@@ -78,7 +79,7 @@ fn push_sizes(sizes: &mut Vec<u32>, c: &Cmd) -> Result<(), AllocError>
 
 // The frame of blocks of these sizes, one after another.
 fn packed(alloc: Global, sizes: &[u32]) -> Result<FrameLayout, AllocError>
-    requires { sum sizes.now ≤ most_frame }
+    requires { sum sizes.now ≤ MOST_FRAME }
     ensures { IfOk result (λ frame. frame ≡ packed sizes.now) }
 {
     let mut offsets = Items::new(alloc);

@@ -5,7 +5,7 @@ use Rattle.std.proofs.lemmas.Option.{slice_get_within}
 use Rattle.std.proofs.lemmas.Int.{of_z-to_z}
 use Rattle.std.specs.Prelude.{slice_get, slice_index, ℤ, pos, ◌⊎◌}
 use Rattle.std.specs.Int.{w32, cast_signed, cast_unsigned}
-use Rattle.lb_trace.specs.Devices.{is_device}
+use Rattle.lb_memory.specs.Map.{is_device}
 use Rattle.lb_trace.specs.declared.Event.{Event}
 use Rattle.lb_trace.specs.declared.Event.TheVariants.{Ld, St}
 use Rattle.lb_word.specs.Word.{ltu_of}

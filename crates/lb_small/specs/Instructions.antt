@@ -1,7 +1,7 @@
 -- What each instruction does to a processor, and when the processor halts instead.
 use Rattle.std.specs.Prelude.{ℕ, ◌+◌, ◌*◌, ◌/◌, ◌%◌, ◌^◌, nat_lt, nat_eq, if◌then◌else◌, List, length, slice_get, slice_index, Option, Some, None, ℤ, Bool, ◌&&◌}
 use Rattle.std.specs.Int.{cast_unsigned, w32}
-use Rattle.lb_trace.specs.Devices.{is_device}
+use Rattle.lb_memory.specs.Map.{is_device}
 use Rattle.lb_trace.specs.declared.Event.{Event}
 use Rattle.lb_trace.specs.declared.Event.TheVariants.{Ld, St}
 use Rattle.lb_word.specs.Word.{add_of, sub_of, mul_of, mulhuu_of, divu_of, remu_of, and_of, or_of, xor_of, sru_of, slu_of, srs_of, lts_of, ltu_of}

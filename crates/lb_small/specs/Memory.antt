@@ -1,5 +1,6 @@
 -- What a processor holds: its pc, its registers and the bytes of its RAM.
 use Rattle.std.specs.Prelude.{ℕ, ◌+◌, ◌*◌, ◌/◌, ◌%◌, ◌^◌, nat_le, nat_eq, if◌then◌else◌, List, slice_index, slice_set, replicate, Bool}
+use Rattle.lb_memory.specs.declared.TheConstants.{RAM_SIZE}
 
 -- the state of a processor: the address of the next instruction, the 32 registers, and RAM from address 0 on
 pub record ProcessorState : Type 0 where
@@ -9,7 +10,7 @@ pub record ProcessorState : Type 0 where
 
 -- the number of bytes of RAM
 abbrev pub ram_size : ℕ
-ram_size = 0x40000
+ram_size = RAM_SIZE
 
 -- this many bytes that are 0
 unfoldable pub zeros : ℕ → List ℕ

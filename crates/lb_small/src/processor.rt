@@ -5,16 +5,14 @@ ghost use Rattle.lb_small.specs.Memory.{ProcessorState, booted, zeros, ram_size,
 ghost use Rattle.lb_small.specs.Instructions.{effect, instruction_effect, fetched, goes_on, sets, jumps, branches, is_device_word, loads, stores, plus_immediate};
 
 use crate::instr::{Cause, SmallInstr};
-use lb_trace::{Event, is_device_address};
+use lb_memory::{RAM_SIZE, is_device_address};
+use lb_trace::Event;
 use lb_word::{add, and_, divu, lts, ltu, mul, mulhuu, or_, remu, slu, srs, sru, sub, xor};
 use std::alloc::{AllocError, Global};
 use std::marker::Model;
 
-// The number of bytes of RAM.
-const RAM_SIZE: usize = 0x40000;
-
 // The address of the last whole word of RAM.
-const LAST_WORD: u32 = 0x3FFFC;
+const LAST_WORD: u32 = RAM_SIZE - 4;
 
 /// What one step did.
 #[derive(Clone, Copy, Debug, PartialEq, Eq)]
@@ -50,7 +48,7 @@ impl Processor {
     pub fn boot(alloc: Global) -> Result<Processor, AllocError>
         ensures { IfOk result (λ p. p ≡ booted) }
     {
-        let ram = zeros_of(alloc, RAM_SIZE)?;
+        let ram = zeros_of(alloc, RAM_SIZE as usize)?;
         Ok(Processor {
             pc: 0,
             registers: [0; 32],

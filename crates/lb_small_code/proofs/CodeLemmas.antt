@@ -1,14 +1,16 @@
 -- How long code is.
-use Rattle.std.proofs.Common.{◌≡◌, ℕ, ◌+◌, ◌*◌, ◌≤◌, List, [], ◌∷◌, ◌++◌, length, arith, length-append}
+use Rattle.std.proofs.Common.{◌≡◌, ℕ, ◌+◌, ◌*◌, ◌≤◌, nat_le, if◌then◌else◌, refl, ap, ◌∙◌, le-leb, List, [], ◌∷◌, ◌++◌, length, arith, length-append}
 use Rattle.lb_syntax.specs.declared.tree.Action.TheVariants.{Read, Write}
 use Rattle.lb_syntax.specs.declared.tree.Op.{Op}
 use Rattle.lb_syntax.specs.declared.tree.Op.TheVariants.{Add, Sub, Mul, Mulhuu, Divu, Remu, And, Or, Xor, Sru, Slu, Srs, Lts, Ltu, Eq}
 use Rattle.lb_syntax.specs.Names.{Text}
 use Rattle.lb_syntax.specs.Tree.{Term, Number, Variable, Loaded, Operation, Procedure}
 use Rattle.lb_syntax.specs.Tree.{Command, Skips, Sets, Unsets, Chooses, Repeats, Interacts, Ends, Then}
-use Rattle.lb_syntax.specs.Needs.{words, term_words, code_need}
+use Rattle.lb_syntax.specs.declared.limits.TheConstants.{NEAR_FRAME}
+use Rattle.lb_syntax.specs.Needs.{words, term_words, procedure_words, frame_need, far_factor, code_need}
 use Rattle.lb_small.specs.declared.instr.SmallInstr.{SmallInstr}
 use Rattle.lb_small.specs.declared.instr.SmallInstr.TheVariants as instr
+use Rattle.lb_small_code.specs.Small.{HasNearFrame}
 use Rattle.lb_small_code.specs.Slots.{slot_names, frame_words}
 use Rattle.lb_small_code.specs.Code.{operation_code, term_code, choice_code, loop_code, command_code, frame_code, procedure_code, jump_back, pair_code, immediate, minus, slot_offset, temporary_offset}
 use Rattle.lb_small_code.proofs.Placed.{IsPlaced}
@@ -97,10 +99,21 @@ length-pair_code f g =
     let j : List SmallInstr = instr.Jal 0 (jump_back g) ∷ [] in
     omega (arith, length-append (procedure_code f) (procedure_code g ++ j), length-append (frame_code (frame_words f)) b, length-append (procedure_code g) j, length-append (frame_code (frame_words g)) e)
 
+times_one : (k n : ℕ) → k ≡ 1 → k * n ≡ n
+times_one k n h = ap (λ j. j * n) h ∙ omega arith
+
+-- the words of a function with a near frame
+near_words : (f : Procedure) → HasNearFrame f → far_factor f * procedure_words f ≡ procedure_words f
+near_words f h = times_one (far_factor f) (procedure_words f) (ap (λ b. if b then 1 else 2) (le-leb (frame_need f) NEAR_FRAME h))
+
+-- the words that two functions with near frames ask for
+pub code_need-near : (f g : Procedure) → HasNearFrame f → HasNearFrame g → code_need (f ∷ g ∷ []) ≡ 16 + (procedure_words f + procedure_words g)
+code_need-near f g near_f near_g = omega (arith, near_words f near_f, near_words g near_g)
+
 -- a program has no more words than it asks for
-pub pair_within_need : (f g : Procedure) (kf kg : ℕ) → IsPlaced (slot_names f) kf f.body → IsPlaced (slot_names g) kg g.body
+pub pair_within_need : (f g : Procedure) (kf kg : ℕ) → HasNearFrame f → HasNearFrame g → IsPlaced (slot_names f) kf f.body → IsPlaced (slot_names g) kg g.body
     → (1 ≤ length (pair_code f g)) × (length (pair_code f g) ≤ code_need (f ∷ g ∷ []))
-pair_within_need f g kf kg hf hg = (
+pair_within_need f g kf kg near_f near_g hf hg = (
   omega (arith, length-pair_code f g),
-  omega (arith, length-pair_code f g, length-command_code (slot_names f) kf f.body hf, length-command_code (slot_names g) kg g.body hg),
+  omega (arith, code_need-near f g near_f near_g, length-pair_code f g, length-command_code (slot_names f) kf f.body hf, length-command_code (slot_names g) kg g.body hg),
 )

@@ -1,7 +1,7 @@
 -- The code of a command or a block does what the command does.
 use Rattle.std.proofs.Common.{◌≡◌, ℕ, zero, suc, ◌+◌, ◌*◌, ◌%◌, ◌^◌, ◌≤◌, ◌<◌, Bool, true, false, ◌&&◌, if◌then◌else◌, List, [], ◌∷◌, ◌++◌, length, drop, Some, None, Ok, refl, sym, ap, ◌∙◌, subst, arith, length-append}
 use Rattle.std.specs.Prelude.{slice_get, slice_index, ℤ, ◌==◌}
-use Rattle.lb_trace.specs.Devices.{is_device}
+use Rattle.lb_memory.specs.Map.{is_device}
 use Rattle.lb_trace.specs.declared.Event.{Event}
 use Rattle.lb_trace.specs.declared.Event.TheVariants.{Ld, St}
 use Rattle.lb_syntax.specs.Names.{Text}

@@ -6,7 +6,7 @@ use Rattle.lb_syntax.specs.declared.tree.Action.TheVariants.{Read, Write}
 use Rattle.lb_syntax.specs.Tree.{Term, Procedure}
 use Rattle.lb_syntax.specs.Tree.{Command, Skips, Sets, Unsets, Chooses, Repeats, Interacts, Ends, Then}
 use Rattle.lb_syntax.specs.Needs.{depth, greatest_depth, term_names, command_names, procedure_names}
-use Rattle.lb_syntax.specs.Small.{IsSmallTerm, IsSmallCommand, IsSmallBlock}
+use Rattle.lb_small_code.specs.Small.{IsSmallTerm, IsSmallCommand, IsSmallBlock}
 use Rattle.lb_syntax.proofs.DistinctLemmas.{bytes_eq-refl}
 use Rattle.lb_small_code.specs.Slots.{slot, slot_names}
 use Rattle.lb_small_code.proofs.NameLemmas.{is_among-with_names}

@@ -6,7 +6,7 @@ use Rattle.std.specs.Str.{bytes_eq}
 use Rattle.lb_syntax.specs.Names.{Text}
 use Rattle.lb_syntax.specs.Tree.{Procedure}
 use Rattle.lb_syntax.specs.Needs.{greatest_depth}
-use Rattle.lb_syntax.specs.Small.{IsSmallProcedure}
+use Rattle.lb_small_code.specs.Small.{IsSmallProcedure}
 use Rattle.lb_syntax.specs.declared.layout.FrameLayout.{FrameLayout}
 use Rattle.lb_syntax.proofs.DistinctLemmas.{bytes_eq-refl}
 use Rattle.lb_source.specs.Run.{State, Outcome, Goes, then_do, Callable, callee, calls, enter, entered, returned, run}

@@ -11,8 +11,8 @@ use Rattle.lb_syntax.specs.declared.tree.Op.TheVariants.{Add, Sub, Mul, Mulhuu, 
 use Rattle.lb_syntax.specs.Names.{Text}
 use Rattle.lb_syntax.specs.Tree.{Term, Number, Variable, Loaded, Operation, Procedure}
 use Rattle.lb_syntax.specs.Tree.{Command, Skips, Sets, Unsets, Chooses, Repeats, Interacts, Ends, Then}
-use Rattle.lb_syntax.specs.Needs.{nodes, depth, words, greatest_jump, greatest_depth}
-use Rattle.lb_syntax.specs.Small.{IsSmallTerm}
+use Rattle.lb_syntax.specs.Needs.{nodes, depth, words, greatest_depth}
+use Rattle.lb_small_code.specs.Small.{IsSmallTerm, longest_branch}
 use Rattle.lb_small.specs.declared.instr.SmallInstr.{SmallInstr}
 use Rattle.lb_small.specs.declared.instr.SmallInstr.TheVariants as instr
 use Rattle.lb_small.specs.Ranges.{IsImmediate, IsUpperImmediate, IsJumpOffset, IsBranchOffset, IsInRange, AreInRange}
@@ -181,7 +181,7 @@ nodes_positive (Variable x) = omega arith
 nodes_positive (Loaded w a) = omega arith
 nodes_positive (Operation op l r) = omega arith
 
-command_in_range : (slots : List Text) (temporaries : ℕ) (c : Command) → length slots + temporaries ≤ 474 → IsPlaced slots temporaries c → greatest_jump c ≤ 4080
+command_in_range : (slots : List Text) (temporaries : ℕ) (c : Command) → length slots + temporaries ≤ 474 → IsPlaced slots temporaries c → longest_branch c ≤ 4080
     → AreInRange (command_code slots c)
 command_in_range slots temporaries Skips few h near = All-nil IsInRange
 command_in_range slots temporaries (Sets x e) few h near =
@@ -225,12 +225,12 @@ frame_in_range words few =
     cons_in_range (instr.Lui 2 0x40000) (instr.Addi 2 2 (immediate (minus (4 * words))) ∷ []) (omega arith, (refl, omega arith))
     (one_in_range (instr.Addi 2 2 (immediate (minus (4 * words)))) (omega arith, omega arith, minus_immediate (4 * words) (omega arith)))
 
-procedure_in_range : (f : Procedure) → frame_words f ≤ 474 → IsPlaced (slot_names f) (greatest_depth f.body) f.body → greatest_jump f.body ≤ 4080 → AreInRange (procedure_code f)
+procedure_in_range : (f : Procedure) → frame_words f ≤ 474 → IsPlaced (slot_names f) (greatest_depth f.body) f.body → longest_branch f.body ≤ 4080 → AreInRange (procedure_code f)
 procedure_in_range f few h near =
     append_in_range (frame_code (frame_words f)) (command_code (slot_names f) f.body) (frame_in_range (frame_words f) few) (command_in_range (slot_names f) (greatest_depth f.body) f.body few h near)
 
 pub pair_in_range : (f g : Procedure) → frame_words f ≤ 474 → frame_words g ≤ 474 → IsPlaced (slot_names f) (greatest_depth f.body) f.body → IsPlaced (slot_names g) (greatest_depth g.body) g.body
-    → greatest_jump f.body ≤ 4080 → greatest_jump g.body ≤ 4080 → words g.body ≤ 32768 → AreInRange (pair_code f g)
+    → longest_branch f.body ≤ 4080 → longest_branch g.body ≤ 4080 → words g.body ≤ 32768 → AreInRange (pair_code f g)
 pair_in_range f g few_f few_g hf hg near_f near_g room =
     let jump = instr.Jal 0 (jump_back g) in
     append_in_range (procedure_code f) (procedure_code g ++ jump ∷ []) (procedure_in_range f few_f hf near_f)

@@ -10,7 +10,7 @@ use Rattle.lb_syntax.specs.declared.tree.Op.{Op}
 use Rattle.lb_syntax.specs.declared.tree.Op.TheVariants.{Add, Sub, Mul, Mulhuu, Divu, Remu, And, Or, Xor, Sru, Slu, Srs, Lts, Ltu, Eq}
 use Rattle.lb_syntax.specs.Tree.{Term, Number, Variable, Loaded, Operation}
 use Rattle.lb_syntax.specs.Needs.{depth}
-use Rattle.lb_syntax.specs.Small.{IsSmallTerm}
+use Rattle.lb_small_code.specs.Small.{IsSmallTerm}
 use Rattle.lb_word.specs.Word.{add_of, sub_of, mul_of, mulhuu_of, divu_of, remu_of, and_of, or_of, xor_of, sru_of, slu_of, srs_of, lts_of, ltu_of, eq_of}
 use Rattle.lb_word.proofs.BoundLemmas.{add_of_below, sub_of_below, mul_of_below, mulhuu_of_below, divu_of_below, remu_of_below, and_of_below, or_of_below, xor_of_below, sru_of_below, slu_of_below, srs_of_below, lts_of_below, ltu_of_below, eq_of_below}
 use Rattle.lb_source.specs.Value.{or_unset, operate, operated}

@@ -3,12 +3,13 @@ use Rattle.std.proofs.Common.{◌≡◌, ℕ, zero, suc, ◌+◌, ◌*◌, ◌%�
 use Rattle.std.specs.Prelude.{All}
 use Rattle.std.specs.Str.{bytes_eq}
 use Rattle.std.proofs.lemmas.List.Elements.{All-nil, All-cons, All-head, All-tail}
+use Rattle.lb_syntax.specs.declared.limits.TheConstants.{MOST_FRAME}
 use Rattle.lb_syntax.specs.declared.tree.Action.TheVariants.{Read, Write}
 use Rattle.lb_syntax.specs.Tree.{Procedure}
 use Rattle.lb_syntax.specs.Tree.{Command, Skips, Sets, Unsets, Chooses, Repeats, Interacts, Ends, Then}
-use Rattle.lb_syntax.specs.Needs.{sites, variables, greatest_jump, greatest_depth, procedure_names, code_need, frame_need, most_jump, most_frame, IsWithinLimits}
+use Rattle.lb_syntax.specs.Needs.{sites, variables, greatest_depth, procedure_names, code_need, frame_need, IsWithinLimits}
 use Rattle.lb_syntax.specs.Layouts.{IsFrameOf, AreFramesOf}
-use Rattle.lb_syntax.specs.Small.{IsSmallCommand, IsSmallBlock, IsSmallProcedure}
+use Rattle.lb_small_code.specs.Small.{IsSmallCommand, IsSmallBlock, IsSmallProcedure, HasNearFrame}
 use Rattle.lb_syntax.specs.declared.layout.FrameLayout.{FrameLayout}
 use Rattle.lb_syntax.specs.declared.layout.Layout.{Layout}
 use Rattle.lb_source.specs.Run.{Callable}
@@ -28,7 +29,7 @@ use Rattle.lb_small_code.proofs.Simulation.{Finishes, suc_times, agrees, stands_
 use Rattle.lb_small_code.proofs.NameLemmas.{length-with_names}
 use Rattle.lb_small_code.proofs.Placed.{IsPlaced, procedure_placed}
 use Rattle.lb_small_code.proofs.CommandRuns.{trace_of, IsWaiting}
-use Rattle.lb_small_code.proofs.CodeLemmas.{pair_within_need}
+use Rattle.lb_small_code.proofs.CodeLemmas.{code_need-near, pair_within_need}
 use Rattle.lb_small_code.proofs.RangeLemmas.{pair_in_range}
 use Rattle.lb_small_code.proofs.ProgramRuns.{Finds, init_first, loop_first, whole-small, pair_finishes}
 
@@ -46,11 +47,11 @@ more_times n a b h = let one : n + 1 ≡ suc n = omega arith in
 pub slots_each : (f : Procedure) → length (slot_names f) ≡ variables f
 slots_each f = length-with_names (procedure_names f)
 
--- a frame within its limit has few words
-few_words : (f : Procedure) → frame_need f ≤ most_frame → frame_words f ≤ 474
+-- a near frame has few words
+few_words : (f : Procedure) → HasNearFrame f → frame_words f ≤ 474
 few_words f h = omega (arith, slots_each f, h)
 
-module _ (f g : Procedure) (is_init : IsSmallProcedure (codes "init") f) (is_loop : IsSmallProcedure (codes "loop") g) where
+module _ (f g : Procedure) (is_init : IsSmallProcedure (codes "init") f) (is_loop : IsSmallProcedure (codes "loop") g) (near_f : HasNearFrame f) (near_g : HasNearFrame g) where
   placed_f : IsPlaced (slot_names f) (greatest_depth f.body) f.body
   placed_f = procedure_placed f is_init.small
 
@@ -58,20 +59,18 @@ module _ (f g : Procedure) (is_init : IsSmallProcedure (codes "init") f) (is_loo
   placed_g = procedure_placed g is_loop.small
 
   within_need : (1 ≤ length (pair_code f g)) × (length (pair_code f g) ≤ code_need (f ∷ g ∷ []))
-  within_need = pair_within_need f g (greatest_depth f.body) (greatest_depth g.body) placed_f placed_g
+  within_need = pair_within_need f g (greatest_depth f.body) (greatest_depth g.body) near_f near_g placed_f placed_g
 
   module _ (limits : IsWithinLimits (f ∷ g ∷ [])) where
     few_f : frame_words f ≤ 474
-    few_f = few_words f (All-head (λ (h : Procedure). frame_need h ≤ most_frame) f (g ∷ []) limits.frames)
+    few_f = few_words f near_f
 
     few_g : frame_words g ≤ 474
-    few_g = few_words g (All-head (λ (h : Procedure). frame_need h ≤ most_frame) g [] (All-tail (λ (h : Procedure). frame_need h ≤ most_frame) f (g ∷ []) limits.frames))
+    few_g = few_words g near_g
 
     in_range : AreInRange (pair_code f g)
     in_range =
-        let jumps = limits.jumps in
-        pair_in_range f g few_f few_g placed_f placed_g (All-head (λ (h : Procedure). greatest_jump h.body ≤ most_jump) f (g ∷ []) jumps)
-        (All-head (λ (h : Procedure). greatest_jump h.body ≤ most_jump) g [] (All-tail (λ (h : Procedure). greatest_jump h.body ≤ most_jump) f (g ∷ []) jumps)) (omega (arith, limits.code))
+        pair_in_range f g few_f few_g placed_f placed_g is_init.short is_loop.short (omega (arith, code_need-near f g near_f near_g, limits.code))
 
     small : length (pair_code f g) ≤ 32768
     small = omega (arith, within_need.1, limits.code)
@@ -105,18 +104,17 @@ module _ (f g : Procedure) (is_init : IsSmallProcedure (codes "init") f) (is_loo
 -- ---- both orders
 
 -- a program asks for as many words whichever function stands first
-code_need-swap : (f g : Procedure) → code_need (f ∷ g ∷ []) ≡ code_need (g ∷ f ∷ [])
-code_need-swap f g = omega arith
+code_need-swap : (f g : Procedure) → HasNearFrame f → HasNearFrame g → code_need (f ∷ g ∷ []) ≡ code_need (g ∷ f ∷ [])
+code_need-swap f g near_f near_g = omega (arith, code_need-near f g near_f near_g, code_need-near g f near_g near_f)
 
 All-swap : {A : Type 0} (P : A → Type 0) (x y : A) → All P (x ∷ y ∷ []) → All P (y ∷ x ∷ [])
 All-swap P x y h = All-cons P y (x ∷ []) (All-head P y [] (All-tail P x (y ∷ []) h)) (All-cons P x [] (All-head P x (y ∷ []) h) (All-nil P))
 
 -- the limits say nothing of the order
-pub within-swap : (f g : Procedure) → IsWithinLimits (f ∷ g ∷ []) → IsWithinLimits (g ∷ f ∷ [])
-within-swap f g h = record {
-  code = omega (arith, h.code, code_need-swap f g);
-  jumps = All-swap (λ (k : Procedure). greatest_jump k.body ≤ most_jump) f g h.jumps;
-  frames = All-swap (λ (k : Procedure). frame_need k ≤ most_frame) f g h.frames;
+pub within-swap : (f g : Procedure) → HasNearFrame f → HasNearFrame g → IsWithinLimits (f ∷ g ∷ []) → IsWithinLimits (g ∷ f ∷ [])
+within-swap f g near_f near_g h = record {
+  code = omega (arith, h.code, code_need-swap f g near_f near_g);
+  frames = All-swap (λ (k : Procedure). frame_need k ≤ MOST_FRAME) f g h.frames;
 }
 
 -- the code of a program whose first function is `init`
@@ -182,42 +180,42 @@ frame_fits f h =
 pub code_follows : CodeFollows
 code_follows [] layout h limits valid = absurd h
 code_follows (f ∷ []) layout h limits valid = absurd h
-code_follows (f ∷ g ∷ []) layout (inl h) limits valid =
-    subst (Follows (f ∷ g ∷ []) layout) (sym (program_code-init_first f g h)) (follows f g h.0 h.1 limits (f ∷ g ∷ []) layout (finds-init_first f g layout.frames h valid))
-code_follows (f ∷ g ∷ []) layout (inr h) limits valid =
-    subst (Follows (f ∷ g ∷ []) layout) (sym (program_code-loop_first f g h)) (follows g f h.0 h.1 (within-swap f g limits) (f ∷ g ∷ []) layout (finds-loop_first f g layout.frames h valid))
+code_follows (f ∷ g ∷ []) layout (inl h, near_f, near_g) limits valid =
+    subst (Follows (f ∷ g ∷ []) layout) (sym (program_code-init_first f g h)) (follows f g h.0 h.1 near_f near_g limits (f ∷ g ∷ []) layout (finds-init_first f g layout.frames h valid))
+code_follows (f ∷ g ∷ []) layout (inr h, near_f, near_g) limits valid =
+    subst (Follows (f ∷ g ∷ []) layout) (sym (program_code-loop_first f g h)) (follows g f h.0 h.1 near_g near_f (within-swap f g near_f near_g limits) (f ∷ g ∷ []) layout (finds-loop_first f g layout.frames h valid))
 code_follows (f ∷ g ∷ k ∷ p) layout h limits valid = absurd h
 
 pub code_reaches : CodeReaches
 code_reaches [] layout h limits valid = absurd h
 code_reaches (f ∷ []) layout h limits valid = absurd h
-code_reaches (f ∷ g ∷ []) layout (inl h) limits valid =
-    subst (Reaches (f ∷ g ∷ []) layout) (sym (program_code-init_first f g h)) (reaches_all f g h.0 h.1 limits (f ∷ g ∷ []) layout refl (finds-init_first f g layout.frames h valid))
-code_reaches (f ∷ g ∷ []) layout (inr h) limits valid =
+code_reaches (f ∷ g ∷ []) layout (inl h, near_f, near_g) limits valid =
+    subst (Reaches (f ∷ g ∷ []) layout) (sym (program_code-init_first f g h)) (reaches_all f g h.0 h.1 near_f near_g limits (f ∷ g ∷ []) layout refl (finds-init_first f g layout.frames h valid))
+code_reaches (f ∷ g ∷ []) layout (inr h, near_f, near_g) limits valid =
     subst (Reaches (f ∷ g ∷ []) layout) (sym (program_code-loop_first f g h))
-    (reaches_all g f h.0 h.1 (within-swap f g limits) (f ∷ g ∷ []) layout (code_need-swap g f) (finds-loop_first f g layout.frames h valid))
+    (reaches_all g f h.0 h.1 near_g near_f (within-swap f g near_f near_g limits) (f ∷ g ∷ []) layout (code_need-swap g f near_g near_f) (finds-loop_first f g layout.frames h valid))
 code_reaches (f ∷ g ∷ k ∷ p) layout h limits valid = absurd h
 
 pub code_is_within_need : CodeIsWithinNeed
 code_is_within_need [] h = absurd h
 code_is_within_need (f ∷ []) h = absurd h
-code_is_within_need (f ∷ g ∷ []) (inl h) =
-    subst (λ (code : List SmallInstr). (1 ≤ length code) × (length code ≤ code_need (f ∷ g ∷ []))) (sym (program_code-init_first f g h)) (within_need f g h.0 h.1)
-code_is_within_need (f ∷ g ∷ []) (inr h) =
-    let need = within_need g f h.0 h.1 in
-    subst (λ (code : List SmallInstr). (1 ≤ length code) × (length code ≤ code_need (f ∷ g ∷ []))) (sym (program_code-loop_first f g h)) (need.0, omega (arith, need.1, code_need-swap g f))
+code_is_within_need (f ∷ g ∷ []) (inl h, near_f, near_g) =
+    subst (λ (code : List SmallInstr). (1 ≤ length code) × (length code ≤ code_need (f ∷ g ∷ []))) (sym (program_code-init_first f g h)) (within_need f g h.0 h.1 near_f near_g)
+code_is_within_need (f ∷ g ∷ []) (inr h, near_f, near_g) =
+    let need = within_need g f h.0 h.1 near_g near_f in
+    subst (λ (code : List SmallInstr). (1 ≤ length code) × (length code ≤ code_need (f ∷ g ∷ []))) (sym (program_code-loop_first f g h)) (need.0, omega (arith, need.1, code_need-swap g f near_g near_f))
 code_is_within_need (f ∷ g ∷ k ∷ p) h = absurd h
 
 pub code_is_in_range : CodeIsInRange
 code_is_in_range [] h limits = absurd h
 code_is_in_range (f ∷ []) h limits = absurd h
-code_is_in_range (f ∷ g ∷ []) (inl h) limits = subst AreInRange (sym (program_code-init_first f g h)) (in_range f g h.0 h.1 limits)
-code_is_in_range (f ∷ g ∷ []) (inr h) limits = subst AreInRange (sym (program_code-loop_first f g h)) (in_range g f h.0 h.1 (within-swap f g limits))
+code_is_in_range (f ∷ g ∷ []) (inl h, near_f, near_g) limits = subst AreInRange (sym (program_code-init_first f g h)) (in_range f g h.0 h.1 near_f near_g limits)
+code_is_in_range (f ∷ g ∷ []) (inr h, near_f, near_g) limits = subst AreInRange (sym (program_code-loop_first f g h)) (in_range g f h.0 h.1 near_g near_f (within-swap f g near_f near_g limits))
 code_is_in_range (f ∷ g ∷ k ∷ p) h limits = absurd h
 
 pub layout_is_valid : LayoutIsValid
 layout_is_valid [] h = absurd h
 layout_is_valid (f ∷ []) h = absurd h
-layout_is_valid (f ∷ g ∷ []) (inl h) = (frame_fits f h.0.small, (frame_fits g h.1.small, tt))
-layout_is_valid (f ∷ g ∷ []) (inr h) = (frame_fits f h.1.small, (frame_fits g h.0.small, tt))
+layout_is_valid (f ∷ g ∷ []) (inl h, near_f, near_g) = (frame_fits f h.0.small, (frame_fits g h.1.small, tt))
+layout_is_valid (f ∷ g ∷ []) (inr h, near_f, near_g) = (frame_fits f h.1.small, (frame_fits g h.0.small, tt))
 layout_is_valid (f ∷ g ∷ k ∷ p) h = absurd h

@@ -1,3 +1,4 @@
+pub mod Small
 pub mod Part
 pub mod Slots
 pub mod Code

@@ -4,7 +4,7 @@ use Rattle.lb_syntax.specs.declared.tree.Action.TheVariants.{Read, Write}
 use Rattle.lb_syntax.specs.Names.{Text}
 use Rattle.lb_syntax.specs.Tree.{Command, Skips, Sets, Unsets, Chooses, Repeats, Interacts, Ends, Then}
 use Rattle.lb_syntax.specs.Needs.{words}
-use Rattle.lb_syntax.specs.Small.{IsSmallCommand, IsSmallBlock}
+use Rattle.lb_small_code.specs.Small.{IsSmallCommand, IsSmallBlock}
 use Rattle.lb_small.specs.declared.instr.SmallInstr.{SmallInstr}
 use Rattle.lb_small.specs.declared.instr.SmallInstr.TheVariants as instr
 use Rattle.lb_small_code.specs.Code.{immediate, minus, slot_offset, temporary_offset, term_code, choice_code, loop_code, command_code}

@@ -4,6 +4,6 @@ pub mod SlotLemmas
 pub mod CodeLengths
 pub mod PatchLemmas
 pub mod SmallParts
-pub mod SmallRules
+pub mod PartLemmas
 pub mod LimitLemmas
 pub mod CompiledLemmas

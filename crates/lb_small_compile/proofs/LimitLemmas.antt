@@ -1,41 +1,14 @@
--- The limits on a program of two functions, and its frames.
+-- The frames of two functions.
 use Rattle.std.proofs.Common.{◌≡◌, ℕ, ◌+◌, ◌*◌, ◌<◌, ◌≤◌, List, [], ◌∷◌, ◌++◌, length, sum, sym, ap, ◌∙◌, zero-add, arith}
-use Rattle.std.proofs.lemmas.List.Elements.{All-nil, All-cons, All-head, All-tail}
 use Rattle.lb_syntax.specs.Names.{Text}
 use Rattle.lb_syntax.specs.Tree.{Procedure}
-use Rattle.lb_syntax.specs.Needs.{command_names, procedure_names, distinct, variables, greatest_depth, greatest_jump, code_need, frame_need, most_words, most_jump, most_frame, IsWithinLimits}
-use Rattle.lb_syntax.specs.Small.{IsSmallBlock}
+use Rattle.lb_syntax.specs.Needs.{command_names, procedure_names, distinct, variables, greatest_depth, frame_need}
+use Rattle.lb_small_code.specs.Small.{IsSmallBlock}
 use Rattle.lb_syntax.specs.declared.layout.FrameLayout.{FrameLayout}
 use Rattle.lb_syntax.specs.declared.layout.Layout.{Layout}
 use Rattle.lb_small_code.specs.Slots.{with_names, slot_names, frame_words, layout_of}
 use Rattle.lb_small_code.proofs.NameLemmas.{length-with_names}
 use Rattle.lb_small_code.proofs.TheoremLemmas.{block_sites}
-
-abbrev HasJumps : Procedure → Type 0
-HasJumps f = greatest_jump f.body ≤ most_jump
-
-abbrev HasFrame : Procedure → Type 0
-HasFrame f = frame_need f ≤ most_frame
-
-pub within_limits : (f g : Procedure) → code_need (f ∷ g ∷ []) ≤ most_words → greatest_jump f.body ≤ most_jump → greatest_jump g.body ≤ most_jump
-    → frame_need f ≤ most_frame → frame_need g ≤ most_frame → IsWithinLimits (f ∷ g ∷ [])
-within_limits f g code first_jumps second_jumps first second = record {
-  code = code;
-  jumps = All-cons HasJumps f (g ∷ []) first_jumps (All-cons HasJumps g [] second_jumps (All-nil HasJumps));
-  frames = All-cons HasFrame f (g ∷ []) first (All-cons HasFrame g [] second (All-nil HasFrame));
-}
-
-pub first_jump_over : (f g : Procedure) → most_jump < greatest_jump f.body → IsWithinLimits (f ∷ g ∷ []) → ⊥
-first_jump_over f g h w = let k = All-head HasJumps f (g ∷ []) w.jumps in omega arith
-
-pub second_jump_over : (f g : Procedure) → most_jump < greatest_jump g.body → IsWithinLimits (f ∷ g ∷ []) → ⊥
-second_jump_over f g h w = let k = All-head HasJumps g [] (All-tail HasJumps f (g ∷ []) w.jumps) in omega arith
-
-pub first_frame_over : (f g : Procedure) → most_frame < frame_need f → IsWithinLimits (f ∷ g ∷ []) → ⊥
-first_frame_over f g h w = let k = All-head HasFrame f (g ∷ []) w.frames in omega arith
-
-pub second_frame_over : (f g : Procedure) → most_frame < frame_need g → IsWithinLimits (f ∷ g ∷ []) → ⊥
-second_frame_over f g h w = let k = All-head HasFrame g [] (All-tail HasFrame f (g ∷ []) w.frames) in omega arith
 
 -- a function without parameters and results names what its commands name
 small_names : (f : Procedure) → f.params ≡ [] → f.results ≡ [] → procedure_names f ≡ command_names f.body

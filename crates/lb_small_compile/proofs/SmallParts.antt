@@ -5,7 +5,7 @@ use Rattle.lb_syntax.specs.declared.tree.Action.TheVariants.{Read, Write}
 use Rattle.lb_syntax.specs.Tree.{Command, Skips, Sets, Unsets, Chooses, Repeats, Interacts, Ends, Then}
 use Rattle.lb_syntax.specs.Calls.{calls, accesses}
 use Rattle.lb_syntax.specs.Rules.{IsGoodAccess}
-use Rattle.lb_syntax.specs.Small.{IsSmallCommand, IsSmallBlock}
+use Rattle.lb_small_code.specs.Small.{IsSmallCommand, IsSmallBlock}
 use Rattle.lb_small_code.proofs.TheoremLemmas.{both_empty}
 
 All-one : {A : Type 0} (P : A → Type 0) (x : A) → P x → All P (x ∷ [])

@@ -1,20 +1,22 @@
 // The instructions of a program.
 ghost use Rattle.std.specs.Prelude.{◌≡◌, ◌<◌, ◌≤◌, ◌*◌, ◌+◌, ◌-◌, [], ◌∷◌, ◌++◌, map, length, slice_set, IfOk, OnOk};
+ghost use Rattle.lb_syntax.specs.declared.limits.TheConstants.{NEAR_FRAME, MOST_WORDS};
 ghost use Rattle.lb_syntax.specs.Tree.{Interacts, term_of, command_of, block_of, procedure_of};
-ghost use Rattle.lb_syntax.specs.Needs.{depth, greatest_depth, most_frame, term_words, words, most_words};
-ghost use Rattle.lb_syntax.specs.Small.{IsSmallTerm, IsSmallCommand, IsSmallBlock};
+ghost use Rattle.lb_syntax.specs.Needs.{depth, greatest_depth, term_words, words};
+ghost use Rattle.lb_small_code.specs.Small.{IsSmallTerm, IsSmallCommand, IsSmallBlock};
 ghost use Rattle.lb_small_code.specs.Slots.{slot_names, frame_words};
 ghost use Rattle.lb_small_code.specs.Code.{immediate, minus, slot_offset, term_code, choice_code, loop_code, command_code, frame_code, pair_code};
 
 use crate::frame::Frame;
 use crate::slots::Slots;
 use crate::terms::{EARLIER, STACK, VALUE, ZERO, emit_term, negated, put, put_away, take_back};
+use lb_memory::STACK_TOP;
 use lb_small::SmallInstr;
 use lb_syntax::{Action, Block, Cmd, Expr, Function, Name};
 use std::alloc::AllocError;
 
 // The address behind the stack.
-const STACK_END: u32 = 0x40000;
+
 
 /// `init` and `loop`, each in its frame, and a jump back to the first command of `loop`.
 pub fn emit_program(
@@ -28,12 +30,12 @@ pub fn emit_program(
     requires init_small { IsSmallBlock (block_of init.now.body) }
     requires init_slots { init_frame.now.slots ≡ slot_names (procedure_of init.now) }
     requires init_words { init_frame.now.words ≡ frame_words (procedure_of init.now) }
-    requires init_fits { 4 * (frame_words (procedure_of init.now) + 34) ≤ most_frame }
+    requires init_fits { 4 * (frame_words (procedure_of init.now) + 34) ≤ NEAR_FRAME }
     requires again_small { IsSmallBlock (block_of again.now.body) }
     requires again_slots { again_frame.now.slots ≡ slot_names (procedure_of again.now) }
     requires again_words { again_frame.now.words ≡ frame_words (procedure_of again.now) }
-    requires again_fits { 4 * (frame_words (procedure_of again.now) + 34) ≤ most_frame }
-    requires room { 5 + words (block_of init.now.body) + words (block_of again.now.body) ≤ most_words }
+    requires again_fits { 4 * (frame_words (procedure_of again.now) + 34) ≤ NEAR_FRAME }
+    requires room { 5 + words (block_of init.now.body) + words (block_of again.now.body) ≤ MOST_WORDS }
     ensures { OnOk result (code.new.items ≡ pair_code (procedure_of init.now) (procedure_of again.now)) }
 {
     emit_frame(code, init_frame)?;
@@ -45,14 +47,14 @@ pub fn emit_program(
 
 // The stack pointer becomes the lowest address of the frame.
 fn emit_frame(code: &mut Vec<SmallInstr>, frame: &Frame) -> Result<(), AllocError>
-    requires { 4 * frame.now.words ≤ most_frame }
+    requires { 4 * frame.now.words ≤ NEAR_FRAME }
     ensures { OnOk result (code.new.items ≡ code.old.items ++ frame_code frame.now.words) }
 {
     put(
         code,
         SmallInstr::Lui {
             rd: STACK,
-            imm: STACK_END,
+            imm: STACK_TOP,
         },
     )?;
     put(
@@ -68,8 +70,8 @@ fn emit_frame(code: &mut Vec<SmallInstr>, frame: &Frame) -> Result<(), AllocErro
 // The commands of a block, and a jump back to the first of them.
 fn emit_repeated(code: &mut Vec<SmallInstr>, slots: &Slots, block: &Block) -> Result<(), AllocError>
     requires small { IsSmallBlock (block_of block.now) }
-    requires frame { 4 * (length slots.now + greatest_depth (block_of block.now) + 34) ≤ most_frame }
-    requires room { length code.old.items + words (block_of block.now) ≤ most_words }
+    requires frame { 4 * (length slots.now + greatest_depth (block_of block.now) + 34) ≤ NEAR_FRAME }
+    requires room { length code.old.items + words (block_of block.now) ≤ MOST_WORDS }
     ensures { let commands = command_code slots.now (block_of block.now) in
         OnOk result (code.new.items ≡ code.old.items ++ (commands ++ SmallInstr.Jal 0 (immediate (minus (4 * length commands))) ∷ [])) }
 {
@@ -82,8 +84,8 @@ fn emit_repeated(code: &mut Vec<SmallInstr>, slots: &Slots, block: &Block) -> Re
 #[cycle(emit)]
 fn emit_block(code: &mut Vec<SmallInstr>, slots: &Slots, block: &Block) -> Result<(), AllocError>
     requires small { IsSmallBlock (block_of block.now) }
-    requires frame { 4 * (length slots.now + greatest_depth (block_of block.now) + 34) ≤ most_frame }
-    requires room { length code.old.items + words (block_of block.now) ≤ most_words }
+    requires frame { 4 * (length slots.now + greatest_depth (block_of block.now) + 34) ≤ NEAR_FRAME }
+    requires room { length code.old.items + words (block_of block.now) ≤ MOST_WORDS }
     ensures { OnOk result (code.new.items ≡ code.old.items ++ command_code slots.now (block_of block.now)) }
 {
     for c in block.commands.as_slice() {
@@ -96,8 +98,8 @@ fn emit_block(code: &mut Vec<SmallInstr>, slots: &Slots, block: &Block) -> Resul
 #[cycle(emit)]
 fn emit_command(code: &mut Vec<SmallInstr>, slots: &Slots, c: &Cmd) -> Result<(), AllocError>
     requires small { IsSmallCommand (command_of c.now) }
-    requires frame { 4 * (length slots.now + greatest_depth (command_of c.now) + 34) ≤ most_frame }
-    requires room { length code.old.items + words (command_of c.now) ≤ most_words }
+    requires frame { 4 * (length slots.now + greatest_depth (command_of c.now) + 34) ≤ NEAR_FRAME }
+    requires room { length code.old.items + words (command_of c.now) ≤ MOST_WORDS }
     ensures { OnOk result (code.new.items ≡ code.old.items ++ command_code slots.now (command_of c.now)) }
 {
     match c {
@@ -135,10 +137,10 @@ fn emit_choice(
     requires condition { IsSmallTerm (term_of condition.now) }
     requires yes { IsSmallBlock (block_of yes.now) }
     requires no { IsSmallBlock (block_of no.now) }
-    requires condition_frame { 4 * (length slots.now + depth (term_of condition.now) + 34) ≤ most_frame }
-    requires yes_frame { 4 * (length slots.now + greatest_depth (block_of yes.now) + 34) ≤ most_frame }
-    requires no_frame { 4 * (length slots.now + greatest_depth (block_of no.now) + 34) ≤ most_frame }
-    requires room { length code.old.items + 8 + term_words (term_of condition.now) + words (block_of yes.now) + words (block_of no.now) ≤ most_words }
+    requires condition_frame { 4 * (length slots.now + depth (term_of condition.now) + 34) ≤ NEAR_FRAME }
+    requires yes_frame { 4 * (length slots.now + greatest_depth (block_of yes.now) + 34) ≤ NEAR_FRAME }
+    requires no_frame { 4 * (length slots.now + greatest_depth (block_of no.now) + 34) ≤ NEAR_FRAME }
+    requires room { length code.old.items + 8 + term_words (term_of condition.now) + words (block_of yes.now) + words (block_of no.now) ≤ MOST_WORDS }
     ensures { OnOk result (code.new.items ≡ code.old.items
         ++ choice_code (term_code slots.now 0 (term_of condition.now)) (command_code slots.now (block_of yes.now)) (command_code slots.now (block_of no.now))) }
 {
@@ -162,9 +164,9 @@ fn emit_loop(
 ) -> Result<(), AllocError>
     requires condition { IsSmallTerm (term_of condition.now) }
     requires body { IsSmallBlock (block_of body.now) }
-    requires condition_frame { 4 * (length slots.now + depth (term_of condition.now) + 34) ≤ most_frame }
-    requires body_frame { 4 * (length slots.now + greatest_depth (block_of body.now) + 34) ≤ most_frame }
-    requires room { length code.old.items + 8 + term_words (term_of condition.now) + words (block_of body.now) ≤ most_words }
+    requires condition_frame { 4 * (length slots.now + depth (term_of condition.now) + 34) ≤ NEAR_FRAME }
+    requires body_frame { 4 * (length slots.now + greatest_depth (block_of body.now) + 34) ≤ NEAR_FRAME }
+    requires room { length code.old.items + 8 + term_words (term_of condition.now) + words (block_of body.now) ≤ MOST_WORDS }
     ensures { OnOk result (code.new.items ≡ code.old.items
         ++ loop_code (term_code slots.now 0 (term_of condition.now)) (command_code slots.now (block_of body.now))) }
 {
@@ -186,7 +188,7 @@ fn emit_access(
     arguments: &[Expr],
 ) -> Result<(), AllocError>
     requires small { IsSmallCommand (Interacts targets.now action (map term_of arguments.now)) }
-    requires frame { 4 * (length slots.now + greatest_depth (Interacts targets.now action (map term_of arguments.now)) + 34) ≤ most_frame }
+    requires frame { 4 * (length slots.now + greatest_depth (Interacts targets.now action (map term_of arguments.now)) + 34) ≤ NEAR_FRAME }
     ensures { OnOk result (code.new.items ≡ code.old.items ++ command_code slots.now (Interacts targets.now action (map term_of arguments.now))) }
 {
     match (action, targets, arguments) {
@@ -204,7 +206,7 @@ fn emit_read(
     address: &Expr,
 ) -> Result<(), AllocError>
     requires small { IsSmallTerm (term_of address.now) }
-    requires frame { 4 * (length slots.now + depth (term_of address.now) + 34) ≤ most_frame }
+    requires frame { 4 * (length slots.now + depth (term_of address.now) + 34) ≤ NEAR_FRAME }
     ensures { OnOk result (code.new.items ≡ code.old.items ++ command_code slots.now (Interacts (target.now ∷ []) Action.Read (term_of address.now ∷ []))) }
 {
     emit_term(code, slots, 0, address)?;
@@ -228,8 +230,8 @@ fn emit_write(
 ) -> Result<(), AllocError>
     requires address { IsSmallTerm (term_of address.now) }
     requires value { IsSmallTerm (term_of value.now) }
-    requires address_frame { 4 * (length slots.now + depth (term_of address.now) + 34) ≤ most_frame }
-    requires value_frame { 4 * (length slots.now + depth (term_of value.now) + 34) ≤ most_frame }
+    requires address_frame { 4 * (length slots.now + depth (term_of address.now) + 34) ≤ NEAR_FRAME }
+    requires value_frame { 4 * (length slots.now + depth (term_of value.now) + 34) ≤ NEAR_FRAME }
     ensures { OnOk result (code.new.items ≡ code.old.items ++ command_code slots.now (Interacts [] Action.Write (term_of address.now ∷ term_of value.now ∷ []))) }
 {
     emit_term(code, slots, 0, address)?;
@@ -277,7 +279,7 @@ fn reserve(code: &mut Vec<SmallInstr>) -> Result<usize, AllocError>
 // The instruction at this place becomes a branch to the end of the code, taken where register `VALUE` is 0.
 fn set_branch(code: &mut Vec<SmallInstr>, at: usize)
     requires within { at < length code.old.items }
-    requires small { length code.old.items ≤ most_words }
+    requires small { length code.old.items ≤ MOST_WORDS }
     ensures { code.new.items ≡ slice_set code.old.items at (SmallInstr.Beq 5 0 (immediate (4 * (length code.old.items - at)))) }
 {
     let imm = bytes_past(code, at).cast_signed();
@@ -291,7 +293,7 @@ fn set_branch(code: &mut Vec<SmallInstr>, at: usize)
 // The instruction at this place becomes a jump to the end of the code.
 fn set_jump(code: &mut Vec<SmallInstr>, at: usize)
     requires within { at < length code.old.items }
-    requires small { length code.old.items ≤ most_words }
+    requires small { length code.old.items ≤ MOST_WORDS }
     ensures { code.new.items ≡ slice_set code.old.items at (SmallInstr.Jal 0 (immediate (4 * (length code.old.items - at)))) }
 {
     let imm = bytes_past(code, at).cast_signed();
@@ -301,7 +303,7 @@ fn set_jump(code: &mut Vec<SmallInstr>, at: usize)
 // A jump back to the instruction at this place.
 fn jump_back(code: &mut Vec<SmallInstr>, to: usize) -> Result<(), AllocError>
     requires within { to ≤ length code.old.items }
-    requires small { length code.old.items ≤ most_words }
+    requires small { length code.old.items ≤ MOST_WORDS }
     ensures { OnOk result (code.new.items ≡ code.old.items ++ SmallInstr.Jal 0 (immediate (minus (4 * (length code.old.items - to)))) ∷ []) }
 {
     let imm = negated(bytes_past(code, to));
@@ -311,7 +313,7 @@ fn jump_back(code: &mut Vec<SmallInstr>, to: usize) -> Result<(), AllocError>
 // The bytes from the instruction at this place to the end of the code.
 fn bytes_past(code: &Vec<SmallInstr>, at: usize) -> u32
     requires within { at ≤ length code.now.items }
-    requires small { length code.now.items ≤ most_words }
+    requires small { length code.now.items ≤ MOST_WORDS }
     ensures { result ≡ 4 * (length code.now.items - at) }
 {
     4 * (code.len() - at) as u32

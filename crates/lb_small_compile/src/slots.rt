@@ -1,25 +1,23 @@
 // The slots of a function's variables.
 ghost use Rattle.std.specs.Prelude.{◌≡◌, ◌<◌, ◌≤◌, ◌*◌, ◌+◌, [], ◌∷◌, ◌++◌, map, length, IfOk, OnOk, OnErr, IsErrOf};
+ghost use Rattle.lb_syntax.specs.declared.limits.TheConstants.{NEAR_FRAME};
 ghost use Rattle.lb_syntax.specs.Names.{is_among};
 ghost use Rattle.lb_syntax.specs.Tree.{Interacts, term_of, command_of, block_of};
-ghost use Rattle.lb_syntax.specs.Needs.{term_names, command_names, most_frame};
-ghost use Rattle.lb_syntax.specs.Small.{IsSmallTerm, IsSmallCommand, IsSmallBlock};
+ghost use Rattle.lb_syntax.specs.Needs.{term_names, command_names};
+ghost use Rattle.lb_small_code.specs.Small.{IsSmallTerm, IsSmallCommand, IsSmallBlock};
 ghost use Rattle.lb_small_code.specs.Slots.{with_name, with_names, slot};
 ghost use Rattle.lb_small_code.specs.Code.{slot_offset, temporary_offset};
 
-use crate::error::CompileError;
-use lb_syntax::{Action, Block, Cmd, Expr, Name};
+use crate::slots_error::SlotsError;
+use lb_syntax::{Action, Block, Cmd, Expr, NEAR_FRAME, Name};
 use std::alloc::{AllocError, Global};
 use std::marker::Model;
 
-/// The most bytes that a frame may ask for.
-pub const MOST_FRAME: u32 = 2_032;
-
 /// Words that a frame asks for beside those of variables and operands.
-pub const FRAME_WORDS: u32 = 34;
+pub const FRAME_WORDS: u64 = 34;
 
 // A frame of more variables is over its limit.
-const MOST_SLOTS: usize = (MOST_FRAME / 4 - FRAME_WORDS) as usize;
+const MOST_SLOTS: usize = (NEAR_FRAME / 4 - FRAME_WORDS) as usize;
 
 /// The variables of a function, each once and in order of first use: the place of a variable is its slot.
 #[derive(Drop)]
@@ -39,11 +37,11 @@ impl Model for Slots {
 }
 
 impl Slots {
-    /// The slots of the variables that a block names. `OverLimit` comes only where they are too many for a frame.
-    pub fn of(alloc: Global, block: &Block) -> Result<Slots, CompileError>
+    /// The slots of the variables that a block names. `TooMany` comes only where they are too many for a frame.
+    pub fn of(alloc: Global, block: &Block) -> Result<Slots, SlotsError>
         requires { IsSmallBlock (block_of block.now) }
         ensures names { IfOk result (λ slots. slots ≡ with_names [] (command_names (block_of block.now))) }
-        ensures over { IsErrOf result CompileError.OverLimit → MOST_SLOTS < length (with_names [] (command_names (block_of block.now))) }
+        ensures over { IsErrOf result SlotsError.TooMany → MOST_SLOTS < length (with_names [] (command_names (block_of block.now))) }
     {
         let mut slots = Slots {
             names: Vec::new(alloc),
@@ -54,10 +52,10 @@ impl Slots {
 
     // The variables that a block names.
     #[cycle(add)]
-    fn add_block(&mut self, alloc: Global, block: &Block) -> Result<(), CompileError>
+    fn add_block(&mut self, alloc: Global, block: &Block) -> Result<(), SlotsError>
         requires { IsSmallBlock (block_of block.now) }
         ensures names { OnOk result (self.new ≡ with_names self.old (command_names (block_of block.now))) }
-        ensures over { IsErrOf result CompileError.OverLimit
+        ensures over { IsErrOf result SlotsError.TooMany
             → MOST_SLOTS < length (with_names self.old (command_names (block_of block.now))) }
     {
         for c in block.commands.as_slice() {
@@ -68,10 +66,10 @@ impl Slots {
 
     // The variables that a command names.
     #[cycle(add)]
-    fn add_command(&mut self, alloc: Global, c: &Cmd) -> Result<(), CompileError>
+    fn add_command(&mut self, alloc: Global, c: &Cmd) -> Result<(), SlotsError>
         requires { IsSmallCommand (command_of c.now) }
         ensures names { OnOk result (self.new ≡ with_names self.old (command_names (command_of c.now))) }
-        ensures over { IsErrOf result CompileError.OverLimit
+        ensures over { IsErrOf result SlotsError.TooMany
             → MOST_SLOTS < length (with_names self.old (command_names (command_of c.now))) }
     {
         match c {
@@ -106,10 +104,10 @@ impl Slots {
         targets: &[Name],
         action: Action,
         arguments: &[Expr],
-    ) -> Result<(), CompileError>
+    ) -> Result<(), SlotsError>
         requires { IsSmallCommand (Interacts targets.now action (map term_of arguments.now)) }
         ensures names { OnOk result (self.new ≡ with_names self.old (command_names (Interacts targets.now action (map term_of arguments.now)))) }
-        ensures over { IsErrOf result CompileError.OverLimit
+        ensures over { IsErrOf result SlotsError.TooMany
             → MOST_SLOTS < length (with_names self.old (command_names (Interacts targets.now action (map term_of arguments.now)))) }
     {
         match (action, targets, arguments) {
@@ -120,10 +118,10 @@ impl Slots {
     }
 
     // The variables that a read names.
-    fn add_read(&mut self, alloc: Global, target: &Name, address: &Expr) -> Result<(), CompileError>
+    fn add_read(&mut self, alloc: Global, target: &Name, address: &Expr) -> Result<(), SlotsError>
         requires { IsSmallTerm (term_of address.now) }
         ensures names { OnOk result (self.new ≡ with_names self.old (command_names (Interacts (target.now ∷ []) Action.Read (term_of address.now ∷ [])))) }
-        ensures over { IsErrOf result CompileError.OverLimit
+        ensures over { IsErrOf result SlotsError.TooMany
             → MOST_SLOTS < length (with_names self.old (command_names (Interacts (target.now ∷ []) Action.Read (term_of address.now ∷ [])))) }
     {
         self.add(alloc, target)?;
@@ -131,11 +129,11 @@ impl Slots {
     }
 
     // The variables that a write names.
-    fn add_write(&mut self, alloc: Global, address: &Expr, value: &Expr) -> Result<(), CompileError>
+    fn add_write(&mut self, alloc: Global, address: &Expr, value: &Expr) -> Result<(), SlotsError>
         requires address { IsSmallTerm (term_of address.now) }
         requires value { IsSmallTerm (term_of value.now) }
         ensures names { OnOk result (self.new ≡ with_names self.old (command_names (Interacts [] Action.Write (term_of address.now ∷ term_of value.now ∷ [])))) }
-        ensures over { IsErrOf result CompileError.OverLimit
+        ensures over { IsErrOf result SlotsError.TooMany
             → MOST_SLOTS < length (with_names self.old (command_names (Interacts [] Action.Write (term_of address.now ∷ term_of value.now ∷ [])))) }
     {
         self.add_term(alloc, address)?;
@@ -143,10 +141,10 @@ impl Slots {
     }
 
     // The variables that an expression names.
-    fn add_term(&mut self, alloc: Global, e: &Expr) -> Result<(), CompileError>
+    fn add_term(&mut self, alloc: Global, e: &Expr) -> Result<(), SlotsError>
         requires { IsSmallTerm (term_of e.now) }
         ensures names { OnOk result (self.new ≡ with_names self.old (term_names (term_of e.now))) }
-        ensures over { IsErrOf result CompileError.OverLimit → MOST_SLOTS < length (with_names self.old (term_names (term_of e.now))) }
+        ensures over { IsErrOf result SlotsError.TooMany → MOST_SLOTS < length (with_names self.old (term_names (term_of e.now))) }
     {
         match e {
             Expr::Literal(_) => Ok(()),
@@ -159,15 +157,15 @@ impl Slots {
         }
     }
 
-    fn add(&mut self, alloc: Global, name: &Name) -> Result<(), CompileError>
+    fn add(&mut self, alloc: Global, name: &Name) -> Result<(), SlotsError>
         ensures names { OnOk result (self.new ≡ with_name self.old name.now) }
-        ensures over { IsErrOf result CompileError.OverLimit → MOST_SLOTS < length (with_name self.old name.now) }
+        ensures over { IsErrOf result SlotsError.TooMany → MOST_SLOTS < length (with_name self.old name.now) }
     {
         if self.contains(name) {
             return Ok(());
         }
         if self.names.len() >= MOST_SLOTS {
-            return Err(CompileError::OverLimit);
+            return Err(SlotsError::TooMany);
         }
         push_copy(&mut self.names, alloc, name)?;
         Ok(())
@@ -196,7 +194,7 @@ impl Slots {
 
     /// The bytes from the first slot to temporary number k, all in a frame.
     pub fn temporary(&self, k: u32) -> i32
-        requires { 4 * (length self.now + k) < most_frame }
+        requires { 4 * (length self.now + k) < NEAR_FRAME }
         ensures { result ≡ temporary_offset self.now k }
     {
         (4 * (self.len() + k)).cast_signed()

@@ -1,22 +1,44 @@
 // Which programs the compiler takes.
-ghost use Rattle.std.specs.Prelude.{◌≡◌, ◌↔◌, true, false, map, IsTrue};
+ghost use Rattle.std.specs.Prelude.{◌≡◌, ◌↔◌, ◌⊎◌, true, false, [], ◌∷◌, map, IsTrue};
 ghost use Rattle.lb_syntax.specs.Names.{IsName};
 ghost use Rattle.lb_syntax.specs.Tree.{Interacts, term_of, command_of, block_of, procedure_of, program_of};
+ghost use Rattle.lb_syntax.specs.Calls.{IsStackNeed};
 ghost use Rattle.lb_syntax.specs.WellFormed.{IsWord};
-ghost use Rattle.lb_syntax.specs.Small.{IsSmallTerm, IsSmallCommand, IsSmallBlock, IsSmallProcedure};
+ghost use Rattle.lb_small_code.specs.Small.{IsSmallTerm, IsSmallCommand, IsSmallBlock, IsSmallProcedure};
 ghost use Rattle.lb_small_code.specs.Part.{IsSmallPair, IsInPart};
 
-use lb_syntax::{Action, Block, Cmd, Expr, Function, Name, Program};
+use crate::branches::are_branches_short;
+use lb_check::Checked;
+use lb_syntax::{Action, Block, Cmd, Expr, Function, NEAR_FRAME, Name};
 
 /// Whether the compiler takes a program: exactly where it has the two functions `init` and `loop`, in either order,
-/// without parameters and results, and without calls, loads, stores and blocks of memory.
-pub fn is_small(program: &Program) -> bool
-    ensures { IsTrue result ↔ IsInPart (program_of program.now) }
+/// without parameters and results, and without calls, loads, stores and blocks of memory, no branch has to pass over
+/// 4,080 bytes, and no frame asks for over 2,032 bytes.
+pub fn is_small(checked: &Checked) -> bool
+    ensures { IsTrue result ↔ IsInPart (program_of checked.now) }
 {
-    match program.functions.as_slice() {
-        [first, second] => is_pair(first, second) || is_pair(second, first),
+    match checked.program().functions.as_slice() {
+        [first, second] => is_in_part(first, second, checked.needs().stack),
         _ => false,
     }
+}
+
+// Whether the program of these two functions, which needs this many bytes of stack, is of the part. Where nothing is
+// called, the stack need is that of the larger frame.
+fn is_in_part(first: &Function, second: &Function, stack: u64) -> bool
+    requires { IsStackNeed (procedure_of first.now ∷ procedure_of second.now ∷ []) stack }
+    ensures yes { result ≡ true → IsInPart (procedure_of first.now ∷ procedure_of second.now ∷ []) }
+    ensures no { result ≡ false → ¬ (IsInPart (procedure_of first.now ∷ procedure_of second.now ∷ [])) }
+{
+    is_pair_in_either_order(first, second) && stack <= NEAR_FRAME
+}
+
+// Whether one of the functions is `init` and the other `loop`.
+fn is_pair_in_either_order(first: &Function, second: &Function) -> bool
+    ensures yes { result ≡ true → IsSmallPair (procedure_of first.now) (procedure_of second.now) ⊎ IsSmallPair (procedure_of second.now) (procedure_of first.now) }
+    ensures no { result ≡ false → ¬ (IsSmallPair (procedure_of first.now) (procedure_of second.now) ⊎ IsSmallPair (procedure_of second.now) (procedure_of first.now)) }
+{
+    is_pair(first, second) || is_pair(second, first)
 }
 
 // Whether the first function is `init` and the second `loop`.
@@ -27,7 +49,7 @@ fn is_pair(init: &Function, again: &Function) -> bool
     is_function(init, b"init") && is_function(again, b"loop")
 }
 
-// Whether a function has this name, no parameters and results, and a small body.
+// Whether a function has this name, no parameters and results, and a small body with short branches.
 fn is_function(f: &Function, name: &[u8]) -> bool
     ensures yes { result ≡ true → IsSmallProcedure name.now (procedure_of f.now) }
     ensures no { result ≡ false → ¬ (IsSmallProcedure name.now (procedure_of f.now)) }
@@ -36,6 +58,7 @@ fn is_function(f: &Function, name: &[u8]) -> bool
         && f.params.is_empty()
         && f.results.is_empty()
         && is_small_block(&f.body)
+        && are_branches_short(&f.body)
 }
 
 // Whether a block is of the small part.

@@ -1,8 +1,9 @@
 // The instructions of an expression.
 ghost use Rattle.std.specs.Prelude.{◌≡◌, ◌≤◌, ◌<◌, ◌*◌, ◌+◌, [], ◌∷◌, ◌++◌, length, OnOk};
+ghost use Rattle.lb_syntax.specs.declared.limits.TheConstants.{NEAR_FRAME};
 ghost use Rattle.lb_syntax.specs.Tree.{term_of};
-ghost use Rattle.lb_syntax.specs.Needs.{depth, most_frame};
-ghost use Rattle.lb_syntax.specs.Small.{IsSmallTerm};
+ghost use Rattle.lb_syntax.specs.Needs.{depth};
+ghost use Rattle.lb_small_code.specs.Small.{IsSmallTerm};
 ghost use Rattle.lb_small_code.specs.Code.{immediate, minus, temporary_offset, word_code, operation_code, term_code};
 
 use crate::slots::Slots;
@@ -30,7 +31,7 @@ pub fn emit_term(
     e: &Expr,
 ) -> Result<(), AllocError>
     requires small { IsSmallTerm (term_of e.now) }
-    requires frame { 4 * (length slots.now + (k + depth (term_of e.now))) ≤ most_frame }
+    requires frame { 4 * (length slots.now + (k + depth (term_of e.now))) ≤ NEAR_FRAME }
     ensures { OnOk result (code.new.items ≡ code.old.items ++ term_code slots.now k (term_of e.now)) }
 {
     match e {
@@ -56,7 +57,7 @@ pub fn emit_term(
 
 /// Temporary number k becomes register `VALUE`.
 pub fn put_away(code: &mut Vec<SmallInstr>, slots: &Slots, k: u32) -> Result<(), AllocError>
-    requires { 4 * (length slots.now + k) < most_frame }
+    requires { 4 * (length slots.now + k) < NEAR_FRAME }
     ensures { OnOk result (code.new.items ≡ code.old.items ++ SmallInstr.Sw 2 5 (temporary_offset slots.now k) ∷ []) }
 {
     put(
@@ -71,7 +72,7 @@ pub fn put_away(code: &mut Vec<SmallInstr>, slots: &Slots, k: u32) -> Result<(),
 
 /// Register `EARLIER` becomes temporary number k.
 pub fn take_back(code: &mut Vec<SmallInstr>, slots: &Slots, k: u32) -> Result<(), AllocError>
-    requires { 4 * (length slots.now + k) < most_frame }
+    requires { 4 * (length slots.now + k) < NEAR_FRAME }
     ensures { OnOk result (code.new.items ≡ code.old.items ++ SmallInstr.Lw 6 2 (temporary_offset slots.now k) ∷ []) }
 {
     put(

@@ -1,6 +1,7 @@
 -- What the interpreter's parts stand for.
 use Rattle.std.specs.Prelude.{◌≡◌, ℕ, ◌+◌, ◌≤◌, max, List, [], ◌∷◌, filter, not, drop, length, slice_get, codes, Option, Some, None, Result, Ok, Err, if◌then◌else◌}
 use Rattle.std.specs.Str.{bytes_eq}
+use Rattle.lb_memory.specs.declared.TheConstants.{STACK_TOP}
 use Rattle.lb_syntax.specs.Names.{Text}
 use Rattle.lb_syntax.specs.Tree.{Term, Procedure, procedure_of, block_of}
 use Rattle.lb_syntax.specs.Tree.{Command, Allocates, Chooses, Repeats, Then}
@@ -107,7 +108,7 @@ BlocksFit room offsets _ = Unit {0}
 
 -- a frame that is no greater than the addresses below the stack's beginning, with its blocks inside
 pub record FrameFits (frame : FrameLayout) (body : Command) : Type 0 where
-  pub small : frame.size ≤ 0x40000
+  pub small : frame.size ≤ STACK_TOP
   pub inside : BlocksFit frame.size frame.sites body
 
 -- each function's frame does

@@ -7,7 +7,7 @@ use Rattle.lb_syntax.specs.Tree.{Command, Skips, Sets, Unsets, Stores, Allocates
 use Rattle.lb_syntax.specs.Needs.{sites}
 use Rattle.lb_syntax.specs.declared.tree.Action.{Action}
 use Rattle.lb_syntax.specs.declared.tree.Action.TheVariants.{Read, Write}
-use Rattle.lb_trace.specs.Devices.{is_device}
+use Rattle.lb_memory.specs.Map.{is_device}
 use Rattle.lb_trace.specs.declared.Event.{Event}
 use Rattle.lb_trace.specs.declared.Event.TheVariants.{Ld, St}
 use Rattle.lb_source.specs.Maps.{Variables, Memory, put, no_variables, with_range}

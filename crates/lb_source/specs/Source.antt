@@ -1,5 +1,6 @@
 -- What a whole program does.
 use Rattle.std.specs.Prelude.{ℕ, zero, suc, List, [], ◌∷◌, codes}
+use Rattle.lb_memory.specs.declared.TheConstants.{STACK_TOP}
 use Rattle.lb_syntax.specs.Names.{Text}
 use Rattle.lb_syntax.specs.Tree.{Procedure}
 use Rattle.lb_syntax.specs.declared.layout.FrameLayout.{FrameLayout}
@@ -22,7 +23,7 @@ callables (f ∷ fs) (frame ∷ frames) = callable f frame ∷ callables fs fram
 -- at the start: nothing is set or owned, and the stack is empty
 abbrev pub start : ℕ → List ℕ → State
 start fuel replies =
-    record { variables = no_variables; memory = nothing_owned; stack = 0x40000; replies = replies; trace = []; fuel = fuel }
+    record { variables = no_variables; memory = nothing_owned; stack = STACK_TOP; replies = replies; trace = []; fuel = fuel }
 
 -- a call from outside
 abbrev pub call_of : List Callable → ℕ → Text → State → Outcome

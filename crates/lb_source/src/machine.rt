@@ -7,11 +7,12 @@ ghost use Rattle.lb_source.specs.Source.{start};
 ghost use Rattle.lb_source.specs.Machine.{memory_of, outcome_of, state_of, variables_of};
 
 use crate::ends::{Reason, SourceEnd};
-use crate::memory::{Bytes, STACK_TOP};
+use crate::memory::Bytes;
 use crate::value::{value_of, values_of};
 use crate::variables::{Entry, assign, find};
+use lb_memory::{STACK_TOP, is_device_address};
 use lb_syntax::{Action, Expr, Name, Width};
-use lb_trace::{Event, is_device_address};
+use lb_trace::Event;
 use sqlite_items::Items;
 use std::alloc::{AllocError, Global};
 
@@ -50,7 +51,7 @@ pub fn start(alloc: Global, fuel: u64, replies: &[u32]) -> Result<Machine, Alloc
     Ok(Machine {
         variables: Vec::new(alloc),
         bytes: Bytes::new(alloc)?,
-        stack: STACK_TOP as u32,
+        stack: STACK_TOP,
         replies: Vec::from_slice(alloc, replies)?,
         next: 0,
         trace: Vec::new(alloc),

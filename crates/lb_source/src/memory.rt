@@ -6,12 +6,10 @@ ghost use Rattle.lb_source.specs.Run.{store};
 ghost use Rattle.lb_source.specs.Machine.{memory_of, cell_of, stored};
 
 use crate::ends::Reason;
+use lb_memory::STACK_TOP;
 use lb_syntax::Width;
 use std::alloc::{AllocError, Global};
 use std::marker::Model;
-
-/// The stack begins here and grows downwards, so no byte from here on is ever owned.
-pub const STACK_TOP: usize = 0x40000;
 
 /// What is known of one address.
 #[derive(Clone, Copy, Debug, PartialEq, Eq)]
@@ -32,13 +30,14 @@ pub struct Bytes {
 
 impl Model for Bytes {
     ghost use Rattle.std.specs.Prelude.{List, ◌≡◌, length};
+    ghost use Rattle.lb_memory.specs.declared.TheConstants.{STACK_TOP};
     ghost use Rattle.lb_source.specs.declared.memory.Cell.{Cell};
 
     ghost Value = { List Cell };
 
     ghost view = { λ b. b.cells.items };
 
-    ghost invariant = { λ b. length b.cells.items ≡ 0x40000 };
+    ghost invariant = { λ b. length b.cells.items ≡ STACK_TOP };
 }
 
 impl Bytes {
@@ -46,7 +45,7 @@ impl Bytes {
     pub fn new(alloc: Global) -> Result<Bytes, AllocError>
         ensures { IfOk result (λ b. memory_of b ≡ nothing_owned) }
     {
-        let cells = absent_cells(alloc, STACK_TOP)?;
+        let cells = absent_cells(alloc, STACK_TOP as usize)?;
         Ok(Bytes { cells })
     }
 

@@ -1,5 +1,6 @@
 // The commands of a program, run.
 ghost use Rattle.std.specs.Prelude.{◌≡◌, ◌≤◌, ◌<◌, ◌+◌, ◌-◌, ◌*◌, [], ◌∷◌, map, drop, length, IfOk, MatchOption};
+ghost use Rattle.lb_memory.specs.declared.TheConstants.{STACK_TOP};
 ghost use Rattle.lb_syntax.specs.Tree.{term_of, command_of, block_of, procedure_of, program_of, Allocates};
 ghost use Rattle.lb_syntax.specs.Needs.{sites};
 ghost use Rattle.lb_syntax.specs.declared.tree.Cmd.{size-Cmd};
@@ -82,13 +83,13 @@ fn begin(
     vs: &[u32],
 ) -> Result<Vec<Entry>, AllocError>
     requires some { 0 < m.old.fuel }
-    requires stack { m.old.stack ≤ 0x40000 }
+    requires stack { m.old.stack ≤ STACK_TOP }
     requires fits { FrameFits frame.now (block_of function.now.body) }
     ensures caller { IfOk result (λ caller. variables_of caller.items ≡ variables_of m.old.variables.items) }
     ensures begins { IfOk result (λ caller. state_of m.new ≡ entered (callable (procedure_of function.now) frame.now) vs.now (record (state_of m.old) { fuel = m.old.fuel - 1 })) }
     ensures fuel { m.new.fuel + 1 ≡ m.old.fuel }
-    ensures stack { m.new.stack ≤ 0x40000 }
-    ensures blocks { IfOk result (λ caller. BlocksFit (0x40000 - m.new.stack) frame.now.sites (block_of function.now.body)) }
+    ensures stack { m.new.stack ≤ STACK_TOP }
+    ensures blocks { IfOk result (λ caller. BlocksFit (STACK_TOP - m.new.stack) frame.now.sites (block_of function.now.body)) }
 {
     m.fuel -= 1;
     let mut entries = Vec::new(alloc);
@@ -108,8 +109,8 @@ fn run_command(
     offsets: &[u32],
     c: &Cmd,
 ) -> Result<Flow, AllocError>
-    requires stack { m.old.stack ≤ 0x40000 }
-    requires blocks { BlocksFit (0x40000 - m.old.stack) offsets.now (command_of c.now) }
+    requires stack { m.old.stack ≤ STACK_TOP }
+    requires blocks { BlocksFit (STACK_TOP - m.old.stack) offsets.now (command_of c.now) }
     requires frames { FramesFit (program_of program.now) layout.now.frames }
     requires deep { size-Cmd c.now ≤ deepest program.now.functions }
     ensures follows { IfOk result (λ flow. Follows (callables (program_of program.now) layout.now.frames) offsets.now (command_of c.now) m.old flow m.new) }
@@ -172,8 +173,8 @@ fn run_block(
     offsets: &[u32],
     block: &Block,
 ) -> Result<Flow, AllocError>
-    requires stack { m.old.stack ≤ 0x40000 }
-    requires blocks { BlocksFit (0x40000 - m.old.stack) offsets.now (block_of block.now) }
+    requires stack { m.old.stack ≤ STACK_TOP }
+    requires blocks { BlocksFit (STACK_TOP - m.old.stack) offsets.now (block_of block.now) }
     requires frames { FramesFit (program_of program.now) layout.now.frames }
     requires deep { size-Block block.now ≤ deepest program.now.functions }
     ensures follows { IfOk result (λ flow. Follows (callables (program_of program.now) layout.now.frames) offsets.now (block_of block.now) m.old flow m.new) }
@@ -202,8 +203,8 @@ fn run_loop(
     body: &Block,
     condition: &Expr,
 ) -> Result<Flow, AllocError>
-    requires stack { m.old.stack ≤ 0x40000 }
-    requires blocks { BlocksFit (0x40000 - m.old.stack) offsets.now (block_of body.now) }
+    requires stack { m.old.stack ≤ STACK_TOP }
+    requires blocks { BlocksFit (STACK_TOP - m.old.stack) offsets.now (block_of body.now) }
     requires frames { FramesFit (program_of program.now) layout.now.frames }
     requires deep { size-Block body.now ≤ deepest program.now.functions }
     ensures follows { IfOk result (λ flow. FollowsTurns (callables (program_of program.now) layout.now.frames) offsets.now (term_of condition.now) (block_of body.now) m.old flow m.new) }
@@ -239,9 +240,9 @@ fn run_allocated(
     bytes: u32,
     target: &Name,
 ) -> Result<Flow, AllocError>
-    requires stack { m.old.stack ≤ 0x40000 }
-    requires block { BlockFits (0x40000 - m.old.stack) offsets.now bytes }
-    requires blocks { BlocksFit (0x40000 - m.old.stack) (drop 1 offsets.now) (block_of body.now) }
+    requires stack { m.old.stack ≤ STACK_TOP }
+    requires block { BlockFits (STACK_TOP - m.old.stack) offsets.now bytes }
+    requires blocks { BlocksFit (STACK_TOP - m.old.stack) (drop 1 offsets.now) (block_of body.now) }
     requires frames { FramesFit (program_of program.now) layout.now.frames }
     requires deep { size-Block body.now < deepest program.now.functions }
     ensures follows { IfOk result (λ flow. Follows (callables (program_of program.now) layout.now.frames) offsets.now (Allocates bytes target.now (block_of body.now)) m.old flow m.new) }
@@ -274,7 +275,7 @@ pub fn run_call(
     arguments: &[Expr],
     targets: &[Name],
 ) -> Result<Flow, AllocError>
-    requires stack { m.old.stack ≤ 0x40000 }
+    requires stack { m.old.stack ≤ STACK_TOP }
     requires frames { FramesFit (program_of program.now) layout.now.frames }
     ensures follows { IfOk result (λ flow. FollowsCall (callables (program_of program.now) layout.now.frames) name.now (map term_of arguments.now) targets.now m.old flow m.new) }
     ensures fuel { m.new.fuel ≤ m.old.fuel }
@@ -298,7 +299,7 @@ fn enter(
     vs: &[u32],
     targets: &[Name],
 ) -> Result<Flow, AllocError>
-    requires stack { m.old.stack ≤ 0x40000 }
+    requires stack { m.old.stack ≤ STACK_TOP }
     requires frames { FramesFit (program_of program.now) layout.now.frames }
     ensures follows { IfOk result (λ flow. FollowsEntry (callables (program_of program.now) layout.now.frames) name.now vs.now targets.now m.old flow m.new) }
     ensures fuel { m.new.fuel ≤ m.old.fuel }

@@ -1,5 +1,6 @@
 // A whole program, run.
 ghost use Rattle.std.specs.Prelude.{◌≡◌, ◌≤◌, IfOk};
+ghost use Rattle.lb_memory.specs.declared.TheConstants.{STACK_TOP};
 ghost use Rattle.lb_syntax.specs.Tree.{program_of};
 ghost use Rattle.lb_syntax.specs.Layouts.{IsValidLayout};
 ghost use Rattle.lb_source.specs.Source.{callables, src};
@@ -40,7 +41,7 @@ fn run_whole(
     program: &Program,
     layout: &Layout,
 ) -> Result<SourceEnd, AllocError>
-    requires stack { m.old.stack ≤ 0x40000 }
+    requires stack { m.old.stack ≤ STACK_TOP }
     requires frames { FramesFit (program_of program.now) layout.now.frames }
     ensures { IfOk result (λ end. FollowsWhole (callables (program_of program.now) layout.now.frames) m.old end m.new) }
 {
@@ -57,7 +58,7 @@ fn run_for_ever(
     program: &Program,
     layout: &Layout,
 ) -> Result<SourceEnd, AllocError>
-    requires stack { m.old.stack ≤ 0x40000 }
+    requires stack { m.old.stack ≤ STACK_TOP }
     requires frames { FramesFit (program_of program.now) layout.now.frames }
     ensures { IfOk result (λ end. FollowsEver (callables (program_of program.now) layout.now.frames) m.old end m.new) }
 {

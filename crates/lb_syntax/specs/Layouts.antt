@@ -5,10 +5,6 @@ use Rattle.lb_syntax.specs.Needs.{sites, frame_need}
 use Rattle.lb_syntax.specs.declared.layout.FrameLayout.{FrameLayout}
 use Rattle.lb_syntax.specs.declared.layout.Layout.{Layout}
 
--- the address at which the stack begins; it grows downwards
-abbrev pub stack_top : ℕ
-stack_top = 0x40000
-
 -- bytes of a frame from an offset on
 pub record Span : Type 0 where
   pub offset : ℕ

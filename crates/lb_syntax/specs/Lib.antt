@@ -10,4 +10,3 @@ pub mod Printing
 pub mod Brackets
 pub mod Parts
 pub mod Nesting
-pub mod Small

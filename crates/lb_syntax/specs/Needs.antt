@@ -1,5 +1,6 @@
--- How many words of code, bytes of a branch and bytes of a frame a program asks for, counted on its tree.
-use Rattle.std.specs.Prelude.{ℕ, ◌+◌, ◌*◌, ◌≤◌, max, List, [], ◌∷◌, ◌++◌, length, map, sum, if◌then◌else◌, All}
+-- How many words of code and bytes of a frame a program asks for, counted on its tree.
+use Rattle.std.specs.Prelude.{ℕ, ◌+◌, ◌*◌, ◌≤◌, nat_le, max, List, [], ◌∷◌, ◌++◌, length, map, sum, if◌then◌else◌, All}
+use Rattle.lb_syntax.specs.declared.limits.TheConstants.{MOST_WORDS, MOST_FRAME, NEAR_FRAME}
 use Rattle.lb_syntax.specs.Names.{Text, is_among}
 use Rattle.lb_syntax.specs.Tree.{Term, Number, Variable, Loaded, Operation, Procedure}
 use Rattle.lb_syntax.specs.Tree.{Command, Skips, Sets, Unsets, Stores, Allocates, Chooses, Repeats, Calls, Interacts, Ends, Then}
@@ -43,24 +44,6 @@ words (Then c b) = words c + words b
 -- the words of a function
 abbrev pub procedure_words : Procedure → ℕ
 procedure_words f = 80 + 4 * length f.params + 4 * length f.results + words f.body
-
--- the words of a program, at 4 bytes each
-abbrev pub code_need : List Procedure → ℕ
-code_need p = 16 + sum (map procedure_words p)
-
--- how many bytes the branches of this one command may have to pass; a command without branches passes none
-abbrev pub jump_need : Command → ℕ
-jump_need (Chooses e b d) = 4 * (term_words e + max (words b) (words d))
-jump_need (Repeats e b) = 4 * (term_words e + words b)
-jump_need _ = 0
-
--- the greatest of a command and of all that stand in it
-abbrev pub greatest_jump : Command → ℕ
-greatest_jump (Allocates n x b) = greatest_jump b
-greatest_jump (Chooses e b d) = max (jump_need (Chooses e b d)) (max (greatest_jump b) (greatest_jump d))
-greatest_jump (Repeats e b) = max (jump_need (Repeats e b)) (greatest_jump b)
-greatest_jump (Then c b) = max (greatest_jump c) (greatest_jump b)
-greatest_jump _ = 0
 
 -- the greatest of these numbers, 0 where there is none
 abbrev pub greatest : List ℕ → ℕ
@@ -132,20 +115,16 @@ sites _ = []
 abbrev pub frame_need : Procedure → ℕ
 frame_need f = sum (sites f.body) + 4 * (variables f + greatest_depth f.body + 34)
 
--- the most words of code that a program may ask for
-abbrev pub most_words : ℕ
-most_words = 32768
+-- by how much a function's words are multiplied: a slot of a larger frame may lie further from the stack pointer than an
+-- immediate reaches, and then takes more instructions
+abbrev pub far_factor : Procedure → ℕ
+far_factor f = if nat_le (frame_need f) NEAR_FRAME then 1 else 2
 
--- the most bytes that a branch may have to pass
-abbrev pub most_jump : ℕ
-most_jump = 4080
+-- the words of a program, at 4 bytes each
+abbrev pub code_need : List Procedure → ℕ
+code_need p = 16 + sum (map (λ f. far_factor f * procedure_words f) p)
 
--- the most bytes of a frame
-abbrev pub most_frame : ℕ
-most_frame = 2032
-
--- no need but the stack's passes its number
+-- no need but the stack's passes its limit
 pub record IsWithinLimits (p : List Procedure) : Type 0 where
-  pub code : code_need p ≤ most_words
-  pub jumps : All (λ f. greatest_jump f.body ≤ most_jump) p
-  pub frames : All (λ f. frame_need f ≤ most_frame) p
+  pub code : code_need p ≤ MOST_WORDS
+  pub frames : All (λ f. frame_need f ≤ MOST_FRAME) p

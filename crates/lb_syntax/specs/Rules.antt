@@ -1,27 +1,13 @@
 -- The rules that a program keeps: on its names, its calls and accesses, its blocks, and what it may ask for.
 use Rattle.std.specs.Prelude.{◌≡◌, ℕ, ◌%◌, ◌<◌, ◌≤◌, ◌⊎◌, List, [], length, map, codes, All, Contains}
+use Rattle.lb_memory.specs.declared.TheConstants.{MOST_STACK}
+use Rattle.lb_syntax.specs.declared.limits.TheConstants.{MOST_FUNCTIONS, MOST_PARAMS, MOST_RESULTS}
 use Rattle.lb_syntax.specs.Names.{Text, AreDistinct}
 use Rattle.lb_syntax.specs.declared.tree.Action.{Action}
 use Rattle.lb_syntax.specs.declared.tree.Action.TheVariants.{Read, Write}
 use Rattle.lb_syntax.specs.Tree.{Procedure}
 use Rattle.lb_syntax.specs.Needs.{sites, IsWithinLimits}
 use Rattle.lb_syntax.specs.Calls.{CallSite, AccessSite, calls, accesses, IsCallPath, IsRecursive, path_need}
-
--- the most functions
-abbrev pub most_functions : ℕ
-most_functions = 256
-
--- the most parameters of a function
-abbrev pub most_params : ℕ
-most_params = 8
-
--- the most results of a function
-abbrev pub most_results : ℕ
-most_results = 8
-
--- the most bytes of stack
-abbrev pub most_stack : ℕ
-most_stack = 65536
 
 -- the names of a program's functions
 abbrev pub function_names : List Procedure → List Text
@@ -63,8 +49,8 @@ pub record KeepsFunctionRules (p : List Procedure) (f : Procedure) : Type 0 wher
   pub distinct_params : AreDistinct f.params
   pub distinct_results : AreDistinct f.results
   pub entry : HasEntryShape f
-  pub few_params : length f.params ≤ most_params
-  pub few_results : length f.results ≤ most_results
+  pub few_params : length f.params ≤ MOST_PARAMS
+  pub few_results : length f.results ≤ MOST_RESULTS
   pub block_sizes : All IsBlockSize (sites f.body)
   pub good_calls : All (IsGoodCall p) (calls f.body)
   pub good_accesses : All IsGoodAccess (accesses f.body)
@@ -72,10 +58,10 @@ pub record KeepsFunctionRules (p : List Procedure) (f : Procedure) : Type 0 wher
 
 -- what a whole program keeps
 pub record KeepsRules (p : List Procedure) : Type 0 where
-  pub few_functions : length p ≤ most_functions
+  pub few_functions : length p ≤ MOST_FUNCTIONS
   pub distinct_functions : AreDistinct (function_names p)
   pub has_init : Contains (function_names p) (codes "init")
   pub has_loop : Contains (function_names p) (codes "loop")
   pub functions : All (KeepsFunctionRules p) p
   pub limits : IsWithinLimits p
-  pub stack : (path : List Procedure) → IsCallPath p path → path_need path ≤ most_stack
+  pub stack : (path : List Procedure) → IsCallPath p path → path_need path ≤ MOST_STACK

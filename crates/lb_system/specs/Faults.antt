@@ -21,10 +21,9 @@ status_of (Some fault.TooLong) = 8
 status_of (Some fault.Memory) = 9
 status_of (Some fault.Unbuilt) = 10
 
--- the rule is one of the four on what a program may ask for
+-- the rule is one of the three on what a program may ask for
 abbrev pub IsLimit : CheckFault → Type 0
 IsLimit (rule.FrameNeed _ _) = Unit {0}
-IsLimit (rule.JumpNeed _ _) = Unit {0}
 IsLimit (rule.CodeNeed _) = Unit {0}
 IsLimit (rule.StackNeed _) = Unit {0}
 IsLimit _ = ⊥
@@ -54,7 +53,6 @@ rule_word (rule.DuplicateTarget _ _) = codes "duplicate-target"
 rule_word (rule.BadIo _) = codes "bad-io"
 rule_word (rule.Recursion _) = codes "recursion"
 rule_word (rule.FrameNeed _ _) = codes "frame-need"
-rule_word (rule.JumpNeed _ _) = codes "jump-need"
 rule_word (rule.CodeNeed _) = codes "code-need"
 rule_word (rule.StackNeed _) = codes "stack-need"
 
@@ -94,7 +92,6 @@ rule_place (rule.DuplicateTarget function name) = function_part function ++ name
 rule_place (rule.BadIo function) = function_part function
 rule_place (rule.Recursion function) = function_part function
 rule_place (rule.FrameNeed function bytes) = function_part function ++ bytes_part bytes
-rule_place (rule.JumpNeed function bytes) = function_part function ++ bytes_part bytes
 rule_place (rule.CodeNeed words) = words_part words
 rule_place (rule.StackNeed bytes) = bytes_part bytes
 

@@ -128,7 +128,6 @@ fn is_limit(fault: &CheckFault) -> bool
     matches!(
         fault,
         CheckFault::FrameNeed { .. }
-            | CheckFault::JumpNeed { .. }
             | CheckFault::CodeNeed { .. }
             | CheckFault::StackNeed { .. }
     )

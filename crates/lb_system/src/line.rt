@@ -95,7 +95,6 @@ fn word_of(fault: &CheckFault) -> &'static [u8]
         CheckFault::BadIo { .. } => b"bad-io",
         CheckFault::Recursion { .. } => b"recursion",
         CheckFault::FrameNeed { .. } => b"frame-need",
-        CheckFault::JumpNeed { .. } => b"jump-need",
         CheckFault::CodeNeed { .. } => b"code-need",
         CheckFault::StackNeed { .. } => b"stack-need",
     }
@@ -123,7 +122,7 @@ fn put_place(alloc: Global, line: &mut Vec<u8>, fault: &CheckFault) -> Result<()
             put_function(line, function)?;
             put_number(alloc, line, b" bytes ", u64::from(*bytes))
         }
-        CheckFault::FrameNeed { function, bytes } | CheckFault::JumpNeed { function, bytes } => {
+        CheckFault::FrameNeed { function, bytes } => {
             put_function(line, function)?;
             put_number(alloc, line, b" bytes ", *bytes)
         }

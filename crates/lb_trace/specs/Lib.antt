@@ -1,4 +1,3 @@
-pub mod Devices
 pub mod Frame
 pub mod Hex
 pub mod Prefix

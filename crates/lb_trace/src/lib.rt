@@ -5,13 +5,11 @@ ghost use Rattle.std.specs.Prelude.{◌≡◌, ◌↔◌, IfOk, IsTrue};
 ghost use Rattle.lb_trace.specs.Prefix.{IsPrefix};
 ghost use Rattle.lb_trace.specs.Trace.{reply_values};
 
-mod devices;
 mod events;
 mod frame;
 mod hex;
 mod print;
 
-pub use devices::is_device_address;
 pub use events::Trace;
 pub use frame::Frame;
 pub use hex::hex_digits;

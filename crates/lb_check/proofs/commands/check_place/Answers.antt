@@ -10,6 +10,3 @@ returns-in-Targets c = rw c.in-Targets.is (c.check_targets.ensures (map procedur
 
 pub returns-in-Access : goal.returns-in-Access
 returns-in-Access c = rw c.in-Access.is (c.check_access.ensures (map procedure_of c.args.functions.now))
-
-pub returns-in-JumpNeed : goal.returns-in-JumpNeed
-returns-in-JumpNeed c = rw c.in-JumpNeed.is (c.check_jump.ensures (map procedure_of c.args.functions.now))

@@ -1,7 +1,8 @@
 use Rattle.std.proofs.Common.{rules, ◌≡◌, ◌≤◌, ◌+◌, ◌-◌, ◌*◌, ◌++◌, length, subst, ap, sym, ◌∙◌, arith, append_assoc}
+use Rattle.lb_syntax.specs.declared.limits.TheConstants.{NEAR_FRAME, MOST_WORDS}
 use Rattle.lb_syntax.specs.Tree.{Command, Then, term_of, command_of, block_of}
-use Rattle.lb_syntax.specs.Needs.{words, most_words, greatest_depth, most_frame}
-use Rattle.lb_syntax.specs.Small.{IsSmallBlock}
+use Rattle.lb_syntax.specs.Needs.{words, greatest_depth}
+use Rattle.lb_small_code.specs.Small.{IsSmallBlock}
 use Rattle.lb_small.specs.declared.instr.SmallInstr.TheVariants.{Jal, Beq}
 use Rattle.lb_small_code.specs.Code.{immediate, minus, term_code, command_code}
 use Rattle.lb_small_compile.proofs.BlockLemmas.{rest, rest_at}
@@ -17,8 +18,8 @@ emit_block-loop-c-preserved t c =
     let this = command_of c.c-item.result in
     let next = rest_at cs c.loop-c.c-index c.c-item.result c.loop-c-test.true c.c-item.is in
     let small : IsSmallBlock (Then this (rest cs (c.loop-c.c-index + 1))) = subst IsSmallBlock next c.loop-c.invariant.small in
-    let frame = subst (λ (b : Command). 4 * (length slots + greatest_depth b + 34) ≤ most_frame) next c.loop-c.invariant.frame in
-    let room = subst (λ (b : Command). length c.loop-c.code.items + words b ≤ most_words) next c.loop-c.invariant.room in
+    let frame = subst (λ (b : Command). 4 * (length slots + greatest_depth b + 34) ≤ NEAR_FRAME) next c.loop-c.invariant.frame in
+    let room = subst (λ (b : Command). length c.loop-c.code.items + words b ≤ MOST_WORDS) next c.loop-c.invariant.room in
     let emitted = c.in_ok-emit_command.ensures in
     record {
       small = small.1;

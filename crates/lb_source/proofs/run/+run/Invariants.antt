@@ -1,5 +1,6 @@
 use Rattle.std.proofs.Common.{◌+◌, ◌*◌, drop}
 use Rattle.std.specs.Prelude.{map, ◌-◌}
+use Rattle.lb_memory.specs.declared.TheConstants.{STACK_TOP}
 use Rattle.lb_syntax.specs.Tree.{term_of, command_of, block_of, program_of, chain}
 use Rattle.lb_syntax.specs.declared.tree.Cmd.{size-Cmd}
 use Rattle.lb_syntax.specs.declared.tree.Block.{size-Block}
@@ -30,7 +31,7 @@ abbrev pub invariant-run_block-loop-c : goal.invariant-run_block-loop-c
 invariant-run_block-loop-c l =
     let rest = chain (map command_of (drop l.c-index l.c-items)) in
     let p = callables (program_of l.program) l.layout.frames in
-    BlocksFit (0x40000 - l.m.stack) l.rest rest × Leaves p l.offsets (block_of l.block) l.initial.m l.rest rest l.m
+    BlocksFit (STACK_TOP - l.m.stack) l.rest rest × Leaves p l.offsets (block_of l.block) l.initial.m l.rest rest l.m
 
 abbrev pub invariant-run_loop-turns : goal.invariant-run_loop-turns
 invariant-run_loop-turns l = LeavesTurns (callables (program_of l.program) l.layout.frames) l.offsets (term_of l.condition) (block_of l.body) l.initial.m l.m

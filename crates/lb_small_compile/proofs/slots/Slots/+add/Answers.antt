@@ -4,9 +4,9 @@ use Rattle.std.proofs.lemmas.Result.{err_from_is_err_and}
 use Rattle.lb_syntax.specs.Names.{Text}
 use Rattle.lb_syntax.specs.Tree.{term_of, command_of, block_of}
 use Rattle.lb_syntax.specs.Needs.{term_names, command_names}
-use Rattle.lb_syntax.specs.Small.{IsSmallBlock}
+use Rattle.lb_small_code.specs.Small.{IsSmallBlock}
 use Rattle.lb_small_compile.specs.declared.slots.TheConstants.{MOST_SLOTS}
-use Rattle.lb_small_compile.specs.declared.error.CompileError.TheVariants.{OverLimit}
+use Rattle.lb_small_compile.specs.declared.slots_error.SlotsError.TheVariants.{TooMany}
 use Rattle.lb_small_compile.proofs.BlockLemmas.{rest_at}
 use Rattle.lb_small_compile.proofs.TreeFacts.{says_set, says_if, says_while}
 use Rattle.lb_small_compile.proofs.SlotLemmas.{in_parts, over_front, rest_in_parts, over_at}
@@ -75,7 +75,7 @@ add_command-returns-in_ok-add_block-in-If-clause-over t c =
     let second = command_names (block_of c.in-If.no) in
     let whole = in_parts c.args.self.now c.add_term-in-If.new.self test (first ++ second) (command_names (command_of c.args.c.now)) c.in_ok-add_term-in-If.ensures.names is in
     let last = in_parts c.add_term-in-If.new.self c.add_block.new.self first second (first ++ second) c.in_ok-add_block-in-If.ensures.names refl in
-    subst (λ (names : List Text). IsErrOf c.add_block-in-If.result OverLimit → MOST_SLOTS < length names) (last ∙ whole) c.add_block-in-If.ensures.over
+    subst (λ (names : List Text). IsErrOf c.add_block-in-If.result TooMany → MOST_SLOTS < length names) (last ∙ whole) c.add_block-in-If.ensures.over
 
 pub add_command-returns-in_ok-add_term-in-While-clause-names : goal.add_command-returns-in_ok-add_term-in-While-clause-names
 add_command-returns-in_ok-add_term-in-While-clause-names t c =
@@ -89,4 +89,4 @@ add_command-returns-in_ok-add_term-in-While-clause-over t c =
     let is = ap command_names (says_while c.args.c.now c.in-While.condition c.in-While.body c.in-While.is) in
     let whole = in_parts c.args.self.now c.add_term-in-While.new.self (term_names (term_of c.in-While.condition)) (command_names (block_of c.in-While.body)) (command_names (command_of c.args.c.now))
     c.in_ok-add_term-in-While.ensures.names is in
-    subst (λ (names : List Text). IsErrOf c.add_block-in-While.result OverLimit → MOST_SLOTS < length names) whole c.add_block-in-While.ensures.over
+    subst (λ (names : List Text). IsErrOf c.add_block-in-While.result TooMany → MOST_SLOTS < length names) whole c.add_block-in-While.ensures.over

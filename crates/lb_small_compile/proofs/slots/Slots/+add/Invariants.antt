@@ -1,7 +1,7 @@
 use Rattle.std.proofs.Common.{◌≡◌}
 use Rattle.lb_syntax.specs.Tree.{block_of}
 use Rattle.lb_syntax.specs.Needs.{command_names}
-use Rattle.lb_syntax.specs.Small.{IsSmallBlock}
+use Rattle.lb_small_code.specs.Small.{IsSmallBlock}
 use Rattle.lb_small_code.specs.Slots.{with_names}
 use Rattle.lb_small_compile.proofs.BlockLemmas.{rest}
 use Rattle.lb_small_compile.proofs.slots.Slots.+add.Given as goal

@@ -5,7 +5,7 @@ use Rattle.lb_syntax.specs.Names.{Text}
 use Rattle.lb_syntax.specs.Tree.{term_of}
 use Rattle.lb_syntax.specs.Needs.{term_names}
 use Rattle.lb_small_compile.specs.declared.slots.TheConstants.{MOST_SLOTS}
-use Rattle.lb_small_compile.specs.declared.error.CompileError.TheVariants.{OverLimit}
+use Rattle.lb_small_compile.specs.declared.slots_error.SlotsError.TheVariants.{TooMany}
 use Rattle.lb_small_compile.proofs.TreeFacts.{says_binary}
 use Rattle.lb_small_compile.proofs.SlotLemmas.{in_parts, over_front}
 use Rattle.lb_small_compile.proofs.slots.Slots.+add_term.Goals as goal
@@ -29,4 +29,4 @@ returns-in_ok-add_term-in-Binary-clause-over t c =
     let is = ap term_names (says_binary c.args.e.now c.in-Binary.op c.in-Binary.left c.in-Binary.right c.in-Binary.is) in
     let whole = in_parts c.args.self.now c.add_term.new.self (term_names (term_of c.in-Binary.left)) (term_names (term_of c.in-Binary.right)) (term_names (term_of c.args.e.now))
     (rw c.get.ensures at c.in_ok-add_term-in-Binary.ensures.names) is in
-    subst (λ (names : List Text). IsErrOf c.add_term-in-Binary.result OverLimit → MOST_SLOTS < length names) whole (rw c.get-in-Binary.ensures at c.add_term-in-Binary.ensures.over)
+    subst (λ (names : List Text). IsErrOf c.add_term-in-Binary.result TooMany → MOST_SLOTS < length names) whole (rw c.get-in-Binary.ensures at c.add_term-in-Binary.ensures.over)

@@ -5,7 +5,7 @@ use Rattle.lb_syntax.specs.Names.{Text}
 use Rattle.lb_syntax.specs.Tree.{term_of}
 use Rattle.lb_syntax.specs.Needs.{term_names}
 use Rattle.lb_small_compile.specs.declared.slots.TheConstants.{MOST_SLOTS}
-use Rattle.lb_small_compile.specs.declared.error.CompileError.TheVariants.{OverLimit}
+use Rattle.lb_small_compile.specs.declared.slots_error.SlotsError.TheVariants.{TooMany}
 use Rattle.lb_small_compile.proofs.SlotLemmas.{in_parts, over_front}
 use Rattle.lb_small_compile.proofs.slots.Slots.add_write.Goals as goal
 
@@ -28,4 +28,4 @@ returns-clause-over c =
     let address = term_names (term_of c.args.address.now) in
     let value = term_names (term_of c.args.value.now) in
     let whole = in_parts c.args.self.now c.add_term.new.self address value (address ++ (value ++ [])) c.in_ok-add_term.ensures.names (ap (λ (xs : List Text). address ++ xs) (append-nil value)) in
-    subst (λ (names : List Text). IsErrOf c.add_term-2.result OverLimit → MOST_SLOTS < length names) whole c.add_term-2.ensures.over
+    subst (λ (names : List Text). IsErrOf c.add_term-2.result TooMany → MOST_SLOTS < length names) whole c.add_term-2.ensures.over

@@ -1,9 +1,9 @@
 use Rattle.std.proofs.Common.{◌≡◌, ◌≤◌, max}
 use Rattle.lb_syntax.specs.Tree.{block_of}
 use Rattle.lb_syntax.specs.Needs.{greatest_depth, words}
-use Rattle.lb_syntax.specs.Small.{IsSmallBlock}
+use Rattle.lb_small_code.specs.Small.{IsSmallBlock}
 use Rattle.lb_small_compile.proofs.BlockLemmas.{rest}
-use Rattle.lb_small_compile.proofs.needs.+depth.Given as goal
+use Rattle.lb_small_compile.proofs.depth.+depth.Given as goal
 
 -- the deepest so far and the deepest of what is left are the deepest of all
 abbrev pub invariant-depth_of-loop-c : goal.invariant-depth_of-loop-c
