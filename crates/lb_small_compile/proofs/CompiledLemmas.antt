@@ -1,6 +1,7 @@
 -- What is known of code and layout, once they are those of the program.
 use Rattle.std.proofs.Common.{◌≡◌, ◌+◌, ◌*◌, ◌<◌, ◌≤◌, get_or, List, [], ◌∷◌, length, map, Result, Ok, Err, refl, sym, ap, ◌∙◌, subst, arith}
 use Rattle.std.specs.Prelude.{All, IfOk}
+use Rattle.std.specs.declared.alloc.AllocError.{AllocError}
 use Rattle.lb_syntax.specs.Tree.{Procedure, procedure_of}
 use Rattle.lb_syntax.specs.declared.tree.Function.{Function}
 use Rattle.lb_syntax.specs.Needs.{code_need, variables, greatest_depth, IsWithinLimits}

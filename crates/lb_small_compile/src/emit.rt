@@ -9,7 +9,7 @@ ghost use Rattle.lb_small_code.specs.Code.{immediate, minus, slot_offset, term_c
 
 use crate::frame::Frame;
 use crate::slots::Slots;
-use crate::terms::{EARLIER, STACK, VALUE, ZERO, emit_term, negated, put, put_away, take_back};
+use crate::terms::{EARLIER, STACK, VALUE, ZERO, emit_term, negated, put, spill, reload};
 use lb_memory::STACK_TOP;
 use lb_small::SmallInstr;
 use lb_syntax::{Action, Block, Cmd, Expr, Function, Name};
@@ -235,9 +235,9 @@ fn emit_write(
     ensures { OnOk result (code.new.items ≡ code.old.items ++ command_code slots.now (Interacts [] Action.Write (term_of address.now ∷ term_of value.now ∷ []))) }
 {
     emit_term(code, slots, 0, address)?;
-    put_away(code, slots, 0)?;
+    spill(code, slots, 0)?;
     emit_term(code, slots, 1, value)?;
-    take_back(code, slots, 0)?;
+    reload(code, slots, 0)?;
     put(
         code,
         SmallInstr::Sw {

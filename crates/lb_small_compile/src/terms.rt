@@ -46,9 +46,9 @@ pub fn emit_term(
         ),
         Expr::Binary { op, left, right } => {
             emit_term(code, slots, k, left.get())?;
-            put_away(code, slots, k)?;
+            spill(code, slots, k)?;
             emit_term(code, slots, k + 1, right.get())?;
-            take_back(code, slots, k)?;
+            reload(code, slots, k)?;
             emit_operation(code, *op)
         }
         Expr::Load { .. } => unreachable!(),
@@ -56,7 +56,7 @@ pub fn emit_term(
 }
 
 /// Temporary number k becomes register `VALUE`.
-pub fn put_away(code: &mut Vec<SmallInstr>, slots: &Slots, k: u32) -> Result<(), AllocError>
+pub fn spill(code: &mut Vec<SmallInstr>, slots: &Slots, k: u32) -> Result<(), AllocError>
     requires { 4 * (length slots.now + k) < NEAR_FRAME }
     ensures { OnOk result (code.new.items ≡ code.old.items ++ SmallInstr.Sw 2 5 (temporary_offset slots.now k) ∷ []) }
 {
@@ -71,7 +71,7 @@ pub fn put_away(code: &mut Vec<SmallInstr>, slots: &Slots, k: u32) -> Result<(),
 }
 
 /// Register `EARLIER` becomes temporary number k.
-pub fn take_back(code: &mut Vec<SmallInstr>, slots: &Slots, k: u32) -> Result<(), AllocError>
+pub fn reload(code: &mut Vec<SmallInstr>, slots: &Slots, k: u32) -> Result<(), AllocError>
     requires { 4 * (length slots.now + k) < NEAR_FRAME }
     ensures { OnOk result (code.new.items ≡ code.old.items ++ SmallInstr.Lw 6 2 (temporary_offset slots.now k) ∷ []) }
 {

@@ -12,7 +12,7 @@ use crate::report::{check_report, run_report};
 use crate::request::Request;
 use lb_check::{CheckError, CheckFault, Checked, check};
 use lb_small::SmallInstr;
-use lb_small_compile::{CompileError, Compiled, compile, is_small};
+use lb_small_compile::{Compiled, compile, is_small};
 use lb_syntax::{Layout, Program};
 use lb_text::{ReadError, print_program, read_program};
 use sqlite_items::Items;
@@ -127,9 +127,7 @@ fn is_limit(fault: &CheckFault) -> bool
 {
     matches!(
         fault,
-        CheckFault::FrameNeed { .. }
-            | CheckFault::CodeNeed { .. }
-            | CheckFault::StackNeed { .. }
+        CheckFault::FrameNeed { .. } | CheckFault::CodeNeed { .. } | CheckFault::StackNeed { .. }
     )
 }
 
@@ -139,13 +137,11 @@ fn build(alloc: Global, checked: &Checked) -> Result<Compiled, Fault>
     ensures words { IfOk result (λ made. length made.code.items ≤ 32768) }
     ensures problem { IfErr result (λ fault. (n : ℕ) (replies : List ℕ) → IsProblem (Runs n replies) (program_of checked.now) fault) }
 {
-    let program = checked.program();
-    if !is_small(program) {
+    // That the program keeps the rules is known by its type.
+    checked.program();
+    if !is_small(checked) {
         return Err(Fault::Unbuilt);
     }
-    match compile(alloc, program) {
-        Ok(built) => Ok(built),
-        Err(CompileError::OverLimit) => unreachable!(),
-        Err(CompileError::Memory) => Err(Fault::Memory),
-    }
+    let built = compile(alloc, checked)?;
+    Ok(built)
 }

@@ -1,1 +1,0 @@
-use Rattle.lb_small_compile.proofs.compiler.compile_functions.Goals as goal
