@@ -11,3 +11,4 @@ pub mod RulesKept
 pub mod Settled
 pub mod Refusals
 pub mod CallPaths
+mod OneFault

@@ -4,3 +4,4 @@ pub mod Faults
 pub mod Verdict
 pub mod Places
 pub mod Needed
+pub mod Laws

@@ -11,3 +11,4 @@ pub mod ArmFacts
 pub mod CommandFacts
 pub mod EverFacts
 pub mod FrameFacts
+mod StackLemmas

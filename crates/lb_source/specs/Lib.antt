@@ -3,5 +3,6 @@ pub mod Value
 pub mod Run
 pub mod Source
 pub mod Defined
+pub mod Stack
 pub mod Laws
 pub mod Machine

@@ -11,5 +11,5 @@ mod variables;
 mod whole;
 
 pub use ends::{Reason, SourceEnd, SourceRun};
-pub use laws::{any_bound_serves, more_fuel_goes_on};
+pub use laws::{any_bound_serves, more_fuel_goes_on, stack_stays_above};
 pub use whole::interpret;

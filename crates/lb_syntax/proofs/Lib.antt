@@ -3,3 +3,4 @@ pub mod SetLemmas
 pub mod OpenLemmas
 pub mod OpenTermLemmas
 pub mod OpenCommandLemmas
+pub mod StackLemmas

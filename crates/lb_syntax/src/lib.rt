@@ -8,7 +8,7 @@ mod name;
 mod nesting;
 mod tree;
 
-pub use laws::distinct_is_set_size;
+pub use laws::{distinct_is_set_size, one_stack_need};
 pub use layout::{FrameLayout, Layout};
 pub use limits::{
     MOST_FRAME, MOST_FUNCTIONS, MOST_PARAMS, MOST_RESULTS, MOST_WORDS, NEAR_FRAME,

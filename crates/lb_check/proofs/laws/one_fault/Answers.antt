@@ -1,0 +1,5 @@
+use Rattle.lb_check.proofs.OneFault.{one_fault}
+use Rattle.lb_check.proofs.laws.one_fault.Goals as goal
+
+pub returns : goal.returns
+returns c = one_fault

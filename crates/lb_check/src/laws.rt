@@ -1,0 +1,7 @@
+// The laws of what a program is refused for: no function here computes anything.
+ghost use Rattle.lb_check.specs.Laws.{OneFault};
+
+/// A program has one first fault at most.
+pub fn one_fault()
+    ensures { OneFault }
+{}
