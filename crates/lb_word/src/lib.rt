@@ -181,6 +181,3 @@ pub fn bytes_of(w: u32) -> [u8; 4]
 {
     w.to_le_bytes()
 }
-
-#[cfg(test)]
-mod tests;
