@@ -1,4 +1,4 @@
--- What each instruction does. No call of this crate does it: the processors that run instructions cite this table, and the compiler's proofs too.
+-- What each instruction does. No call of this crate does it: the outcome of an instruction, which all processors share, is told by this table.
 use Rattle.std.specs.Prelude.{ℕ, ◌*◌, ◌/◌, ◌==◌, Bool, true, false, if◌then◌else◌, ℤ}
 use Rattle.lb_word.specs.Word.{add_of, sub_of, mul_of, mulh_of, mulhsu_of, mulhuu_of, div_of, divu_of, rem_of, remu_of, and_of, or_of, xor_of, slu_of, sru_of, srs_of, lts_of, ltu_of, eq_of}
 use Rattle.lb_rv.specs.declared.shape.Shape.{Shape}
@@ -46,21 +46,36 @@ pub record Access : Type 0 where
   pub bytes : ℕ
   pub signed : Bool
 
+abbrev pub access_of : ℕ → Bool → Access
+access_of bytes signed = record { bytes = bytes; signed = signed }
+
+-- the access of a load or a store, which is the instruction's alone, whatever its registers hold; of another instruction it has no bytes
+abbrev pub access : Instr → Access
+access (Lb rd rs1 imm) = access_of 1 true
+access (Lh rd rs1 imm) = access_of 2 true
+access (Lw rd rs1 imm) = access_of 4 false
+access (Lbu rd rs1 imm) = access_of 1 false
+access (Lhu rd rs1 imm) = access_of 2 false
+access (Sb rs1 rs2 imm) = access_of 1 false
+access (Sh rs1 rs2 imm) = access_of 2 false
+access (Sw rs1 rs2 imm) = access_of 4 false
+access _ = access_of 0 false
+
 pub data Effect : Type 0 where
   -- the destination becomes this value, and the pc this address
   Sets : (value : ℕ) → (next : ℕ) → Effect
   -- the pc becomes this address
   Goes : (next : ℕ) → Effect
-  -- the destination becomes what is loaded from this address
-  Loads : Access → (address : ℕ) → Effect
-  -- the lowest bytes of this value are stored at this address
-  Stores : (bytes : ℕ) → (address : ℕ) → (value : ℕ) → Effect
+  -- the destination becomes what the instruction's access loads from this address
+  Loads : (address : ℕ) → Effect
+  -- the lowest bytes of this value, as many as the instruction's access has, are stored at this address
+  Stores : (address : ℕ) → (value : ℕ) → Effect
   -- the processor halts before the instruction
   Stops : Cause → Effect
 
 -- the word that a load makes of the bytes that it read, which are the number n
 abbrev pub loaded_word : Access → ℕ → ℕ
-loaded_word access n = if access.signed then immediate_word (sign_extended (8 * access.bytes) n) else n
+loaded_word taken n = if taken.signed then immediate_word (sign_extended (8 * taken.bytes) n) else n
 
 -- the address behind the instruction
 abbrev pub next_address : ℕ → ℕ
@@ -81,11 +96,12 @@ branches_if test pc imm = Goes (if test == 1 then plus_immediate pc imm else nex
 abbrev pub branches_unless : ℕ → ℕ → ℤ → Effect
 branches_unless test pc imm = Goes (if test == 0 then plus_immediate pc imm else next_address pc)
 
-abbrev pub loads : ℕ → Bool → ℕ → ℤ → Effect
-loads bytes signed a imm = Loads (record { bytes = bytes; signed = signed }) (plus_immediate a imm)
+-- an access at the sum of rs1 and the immediate
+abbrev pub loads : ℕ → ℤ → Effect
+loads a imm = Loads (plus_immediate a imm)
 
-abbrev pub stores : ℕ → ℕ → ℤ → ℕ → Effect
-stores bytes a imm b = Stores bytes (plus_immediate a imm) b
+abbrev pub stores : ℕ → ℤ → ℕ → Effect
+stores a imm b = Stores (plus_immediate a imm) b
 
 -- the effect of the instruction at the address pc, where rs1 and rs2 have the values a and b
 abbrev pub effect : Instr → ℕ → ℕ → ℕ → Effect
@@ -99,14 +115,14 @@ effect (Blt rs1 rs2 imm) pc a b = branches_if (lts_of a b) pc imm
 effect (Bge rs1 rs2 imm) pc a b = branches_unless (lts_of a b) pc imm
 effect (Bltu rs1 rs2 imm) pc a b = branches_if (ltu_of a b) pc imm
 effect (Bgeu rs1 rs2 imm) pc a b = branches_unless (ltu_of a b) pc imm
-effect (Lb rd rs1 imm) pc a b = loads 1 true a imm
-effect (Lh rd rs1 imm) pc a b = loads 2 true a imm
-effect (Lw rd rs1 imm) pc a b = loads 4 false a imm
-effect (Lbu rd rs1 imm) pc a b = loads 1 false a imm
-effect (Lhu rd rs1 imm) pc a b = loads 2 false a imm
-effect (Sb rs1 rs2 imm) pc a b = stores 1 a imm b
-effect (Sh rs1 rs2 imm) pc a b = stores 2 a imm b
-effect (Sw rs1 rs2 imm) pc a b = stores 4 a imm b
+effect (Lb rd rs1 imm) pc a b = loads a imm
+effect (Lh rd rs1 imm) pc a b = loads a imm
+effect (Lw rd rs1 imm) pc a b = loads a imm
+effect (Lbu rd rs1 imm) pc a b = loads a imm
+effect (Lhu rd rs1 imm) pc a b = loads a imm
+effect (Sb rs1 rs2 imm) pc a b = stores a imm b
+effect (Sh rs1 rs2 imm) pc a b = stores a imm b
+effect (Sw rs1 rs2 imm) pc a b = stores a imm b
 effect (Addi rd rs1 imm) pc a b = gives pc (plus_immediate a imm)
 effect (Slti rd rs1 imm) pc a b = gives pc (lts_of a (immediate_word imm))
 effect (Sltiu rd rs1 imm) pc a b = gives pc (ltu_of a (immediate_word imm))

@@ -1,7 +1,7 @@
 -- The text of instructions, and the lines of a listing.
-use Rattle.std.specs.Prelude.{ℕ, ◌/◌, ◌%◌, ◌^◌, List, [], ◌∷◌, ◌++◌, map, codes, decimal, ℤ, Option, Some, None}
-use Rattle.std.specs.Char.{digit_char}
+use Rattle.std.specs.Prelude.{ℕ, ◌/◌, ◌^◌, List, [], ◌∷◌, ◌++◌, codes, decimal, ℤ, Option, Some, None}
 use Rattle.std.specs.Fmt.{signed_decimal}
+use Rattle.lb_trace.specs.Hex.{hex_word}
 use Rattle.lb_rv.specs.declared.shape.Shape.{Shape}
 use Rattle.lb_rv.specs.declared.shape.Shape.TheVariants.{Upper, Jump, Immediate, Address, Store, Branch, Register, Shift, MemoryOrder, Whole}
 use Rattle.lb_rv.specs.declared.instr.Instr.{Instr}
@@ -99,14 +99,6 @@ instruction_text i = name i ++ behind_name (operands (shape i))
 abbrev pub decoded_text : Option Instr → List ℕ
 decoded_text (Some i) = instruction_text i
 decoded_text None = codes "word"
-
--- a word as eight hexadecimal digits in lower case, the highest first
-abbrev pub hex_word : ℕ → List ℕ
-hex_word n =
-    map digit_char (
-    (n / 16 ^ 7 % 16) ∷ (n / 16 ^ 6 % 16) ∷ (n / 16 ^ 5 % 16) ∷ (n / 16 ^ 4 % 16)
-    ∷ (n / 16 ^ 3 % 16) ∷ (n / 16 ^ 2 % 16) ∷ (n / 16 % 16) ∷ (n % 16) ∷ []
-    )
 
 -- the line of the listing for the word at an address
 unfoldable pub listing_line : ℕ → ℕ → List ℕ

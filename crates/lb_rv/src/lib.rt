@@ -11,6 +11,3 @@ pub use decoder::decode;
 pub use encoder::encode;
 pub use instr::{Cause, Instr};
 pub use listing::print_line;
-
-#[cfg(test)]
-mod tests;

@@ -1,11 +1,12 @@
 // The text of instructions, and the lines of a listing.
-ghost use Rattle.std.specs.Prelude.{◌≡◌, ◌++◌, ◌<◌, IfOk, OnOk, Some};
-ghost use Rattle.std.specs.Char.{digit_char};
+ghost use Rattle.std.specs.Prelude.{◌≡◌, ◌++◌, IfOk, OnOk, Some};
+ghost use Rattle.lb_trace.specs.Hex.{hex_word};
 ghost use Rattle.lb_rv.specs.Decoding.{instruction_of};
-ghost use Rattle.lb_rv.specs.Listing.{decoded_text, hex_word, instruction_text, listing_line, name};
+ghost use Rattle.lb_rv.specs.Listing.{decoded_text, instruction_text, listing_line, name};
 
 use crate::shape::{Shape, shape_of};
 use crate::{Instr, decode};
+use lb_trace::hex_digits;
 use std::alloc::{AllocError, Global};
 use std::fmt;
 
@@ -117,33 +118,5 @@ fn name_of(i: Instr) -> &'static str
         Instr::Fence { .. } => "fence",
         Instr::Ecall => "ecall",
         Instr::Ebreak => "ebreak",
-    }
-}
-
-// A word as eight hexadecimal digits in lower case, the highest first.
-fn hex_digits(word: u32) -> [u8; 8]
-    ensures { result ≡ hex_word word }
-{
-    [
-        digit(word >> 28),
-        digit(word >> 24 & 15),
-        digit(word >> 20 & 15),
-        digit(word >> 16 & 15),
-        digit(word >> 12 & 15),
-        digit(word >> 8 & 15),
-        digit(word >> 4 & 15),
-        digit(word & 15),
-    ]
-}
-
-// The digit's character.
-fn digit(d: u32) -> u8
-    requires { d < 16 }
-    ensures { result ≡ digit_char d }
-{
-    if d < 10 {
-        b'0' + d as u8
-    } else {
-        b'a' + (d - 10) as u8
     }
 }
