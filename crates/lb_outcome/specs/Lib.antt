@@ -1,0 +1,5 @@
+pub mod Fetching
+pub mod MemoryMap
+pub mod Outcomes
+pub mod Ram
+pub mod Registers

@@ -1,0 +1,23 @@
+// Which accesses are RAM's, and which a device's.
+ghost use Rattle.std.specs.Prelude.{◌≡◌, ◌≤◌};
+ghost use Rattle.lb_outcome.specs.MemoryMap.{is_device_word, is_in_ram};
+
+use lb_trace::is_device_address;
+
+/// The number of bytes of RAM, which stands from address 0 on.
+pub const RAM_SIZE: u32 = 0x40000;
+
+// Whether an access of this many bytes lies wholly in RAM.
+pub(crate) fn in_ram(bytes: u32, address: u32) -> bool
+    requires { bytes ≤ 4 }
+    ensures { result ≡ is_in_ram bytes address }
+{
+    address <= RAM_SIZE - bytes
+}
+
+// Whether it is one of an aligned word of a device.
+pub(crate) fn device_word(bytes: u32, address: u32) -> bool
+    ensures { result ≡ is_device_word bytes address }
+{
+    bytes == 4 && address % 4 == 0 && is_device_address(address)
+}

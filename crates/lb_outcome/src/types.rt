@@ -1,0 +1,41 @@
+// The outcome of an instruction.
+use lb_rv::{Cause, Instr};
+
+/// What an instruction comes to, before its access is done.
+#[derive(Clone, Copy, Debug, PartialEq, Eq)]
+pub enum Outcome {
+    /// Register `rd` becomes `value`. An `rd` of 0 is no destination, and `value` is then 0.
+    Plain {
+        rd: u8,
+        value: u32,
+    },
+    /// A load of `instruction` at a byte address: of a device's word where `mmio` says so, else in RAM. `served` is what
+    /// its register becomes, once the access is done.
+    Load {
+        instruction: Instr,
+        address: u32,
+        mmio: bool,
+        served: Option<u32>,
+    },
+    /// A store of `instruction` at a byte address: to a device's word where `mmio` says so, else in RAM. `value` is the
+    /// whole of rs2, of which RAM takes the lowest bytes. `served` says that the access is done.
+    Store {
+        instruction: Instr,
+        address: u32,
+        value: u32,
+        mmio: bool,
+        served: bool,
+    },
+    /// The processor halts before the instruction.
+    Halt {
+        cause: Cause,
+    },
+}
+
+/// The outcome of an instruction, and the address of the next one.
+#[derive(Clone, Copy, Debug, PartialEq, Eq)]
+pub struct Executed {
+    pub outcome: Outcome,
+    /// Where the processor halts, the address of the instruction itself.
+    pub next: u32,
+}
