@@ -1,3 +1,4 @@
+pub mod Cells
 pub mod Fetching
 pub mod MemoryMap
 pub mod Outcomes

@@ -1,8 +1,8 @@
--- RAM: a byte for each address; behind its end every byte is 0 and none is written.
-use Rattle.std.specs.Prelude.{ℕ, zero, suc, ◌+◌, ◌*◌, ◌/◌, ◌%◌, nat_lt, ◌==◌, ◌&&◌, if◌then◌else◌, List, [], ◌∷◌}
+-- RAM: a byte for each address.
+use Rattle.std.specs.Prelude.{ℕ, zero, suc, ◌+◌, ◌*◌, ◌/◌, ◌%◌, ◌==◌, if◌then◌else◌, List, [], ◌∷◌}
 use Rattle.lb_rv.specs.declared.instr.Instr.{Instr}
 use Rattle.lb_rv.specs.Effects.{access, loaded_word}
-use Rattle.lb_outcome.specs.MemoryMap.{ram_size}
+use Rattle.lb_outcome.specs.MemoryMap.{is_in_ram}
 
 -- the number that n bytes from the address a on make, the least significant first
 abbrev pub number_at : ℕ → ℕ → (ℕ → ℕ) → ℕ
@@ -11,7 +11,7 @@ number_at (suc n) a ram = ram a + 256 * number_at n (a + 1) ram
 
 -- RAM with this byte at the address a
 abbrev pub with_byte : ℕ → ℕ → (ℕ → ℕ) → (ℕ → ℕ)
-with_byte a v ram = λ x. if nat_lt a ram_size && a == x then v else ram x
+with_byte a v ram = λ x. if a == x then v else ram x
 
 -- RAM with the n lowest bytes of v from the address a on, the least significant first
 abbrev pub with_bytes : ℕ → ℕ → ℕ → (ℕ → ℕ) → (ℕ → ℕ)
@@ -27,10 +27,10 @@ with_words a (w ∷ ws) ram = with_words (a + 4) ws (with_bytes 4 a w ram)
 abbrev pub boot_ram : List ℕ → (ℕ → ℕ)
 boot_ram code = with_words 0 code (λ x. 0)
 
--- what a load at the address a sets its register to
+-- what a load at the address a sets its register to; 0 where it doesn't lie wholly in RAM, where none is done
 unfoldable pub loaded : Instr → ℕ → (ℕ → ℕ) → ℕ
-loaded i a ram = loaded_word (access i) (number_at (access i).bytes a ram)
+loaded i a ram = if is_in_ram (access i).bytes a then loaded_word (access i) (number_at (access i).bytes a ram) else 0
 
--- RAM after a store of v at the address a
+-- RAM after a store of v at the address a; the same where it doesn't lie wholly in RAM, where none is done
 unfoldable pub stored : Instr → ℕ → ℕ → (ℕ → ℕ) → (ℕ → ℕ)
-stored i a v ram = with_bytes (access i).bytes a v ram
+stored i a v ram = if is_in_ram (access i).bytes a then with_bytes (access i).bytes a v ram else ram

@@ -1,10 +1,14 @@
-//! The outcome of an instruction: what all that runs instructions shares.
+//! The outcome of an instruction, the registers and RAM: what all that runs instructions shares.
 #![tactic(auto)]
 
 mod memory_map;
 mod outcomes;
+mod ram;
+mod registers;
 mod types;
 
 pub use memory_map::RAM_SIZE;
 pub use outcomes::{halt, outcome};
+pub use ram::Ram;
+pub use registers::Registers;
 pub use types::{Executed, Outcome};

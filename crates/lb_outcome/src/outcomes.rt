@@ -141,7 +141,7 @@ fn store(instruction: Instr, pc: u32, address: u32, value: u32, code_bytes: u32)
 }
 
 // How many bytes the access has.
-fn access_bytes(i: Instr) -> u32
+pub(crate) fn access_bytes(i: Instr) -> u32
     ensures value { result ≡ (access i).bytes }
     ensures most { result ≤ 4 }
 {

@@ -1,4 +1,4 @@
--- What each instruction does. No call of this crate does it: the outcome of an instruction, which all processors share, is told by this table.
+-- What each instruction does. This crate tells its registers alone; the outcome of an instruction, which all that runs instructions shares, cites the whole table.
 use Rattle.std.specs.Prelude.{ℕ, ◌*◌, ◌/◌, ◌==◌, Bool, true, false, if◌then◌else◌, ℤ}
 use Rattle.lb_word.specs.Word.{add_of, sub_of, mul_of, mulh_of, mulhsu_of, mulhuu_of, div_of, divu_of, rem_of, remu_of, and_of, or_of, xor_of, slu_of, sru_of, srs_of, lts_of, ltu_of, eq_of}
 use Rattle.lb_rv.specs.declared.shape.Shape.{Shape}

@@ -11,3 +11,4 @@ pub use decoder::decode;
 pub use encoder::encode;
 pub use instr::{Cause, Instr};
 pub use listing::print_line;
+pub use shape::{reads, writes};

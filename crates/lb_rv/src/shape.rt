@@ -1,5 +1,6 @@
-// The table of instructions, and the words of their formats.
+// The table of instructions, and the registers that each has to do with.
 ghost use Rattle.std.specs.Prelude.{◌≡◌};
+ghost use Rattle.lb_rv.specs.Effects.{destination, sources};
 ghost use Rattle.lb_rv.specs.Table.{shape};
 
 use crate::Instr;
@@ -83,5 +84,32 @@ pub(crate) fn shape_of(i: Instr) -> Shape
         Instr::Fence { rd, rs1, imm } => Shape::MemoryOrder(0x0F, 0, rd, rs1, imm),
         Instr::Ecall => Shape::Whole(0x00000073),
         Instr::Ebreak => Shape::Whole(0x00100073),
+    }
+}
+
+/// The registers rs1 and rs2, as far as the instruction reads them; 0 where it doesn't. FENCE reads none.
+pub fn reads(i: &Instr) -> (u8, u8)
+    ensures { result ≡ sources i.now }
+{
+    match shape_of(*i) {
+        Shape::Immediate(_, _, _, rs1, _) | Shape::Address(_, _, _, rs1, _) => (rs1, 0),
+        Shape::Store(_, _, rs1, rs2, _) | Shape::Branch(_, _, rs1, rs2, _) => (rs1, rs2),
+        Shape::Register(_, _, _, _, rs1, rs2) => (rs1, rs2),
+        Shape::Shift(_, _, _, _, rs1, _) => (rs1, 0),
+        Shape::Upper(..) | Shape::Jump(..) | Shape::MemoryOrder(..) | Shape::Whole(..) => (0, 0),
+    }
+}
+
+/// The register that the instruction writes; 0 where it writes none. FENCE writes none.
+pub fn writes(i: &Instr) -> u8
+    ensures { result ≡ destination i.now }
+{
+    match shape_of(*i) {
+        Shape::Upper(_, rd, _) => rd,
+        Shape::Jump(_, rd, _) => rd,
+        Shape::Immediate(_, _, rd, _, _) | Shape::Address(_, _, rd, _, _) => rd,
+        Shape::Register(_, _, _, rd, _, _) => rd,
+        Shape::Shift(_, _, _, rd, _, _) => rd,
+        Shape::Store(..) | Shape::Branch(..) | Shape::MemoryOrder(..) | Shape::Whole(..) => 0,
     }
 }
