@@ -86,7 +86,6 @@ fn fault_line(alloc: Global, fault: &CheckFault) -> Result<String, AllocError> {
         CheckFault::BadIo { function } => of(alloc, "bad-io", function),
         CheckFault::Recursion { function } => of(alloc, "recursion", function),
         CheckFault::FrameNeed { function, bytes } => counted(alloc, "frame-need", function, *bytes),
-        CheckFault::JumpNeed { function, bytes } => counted(alloc, "jump-need", function, *bytes),
         CheckFault::CodeNeed { words } => number(alloc, "code-need", *words),
         CheckFault::StackNeed { bytes } => number(alloc, "stack-need", *bytes),
     }

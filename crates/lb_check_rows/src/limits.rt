@@ -24,42 +24,78 @@ fn with_skips(alloc: Global, text: &str, skips: u32) -> Result<String, AllocErro
 }
 
 #[test]
-fn branches_pass_4080_bytes(rt: HostRuntime) -> Result<(), Fail> {
+fn branches_pass_any_length(rt: HostRuntime) -> Result<(), Fail> {
     for (text, skips, want) in [
         (
             "fn init() { while 1 { x = 1; # } } fn loop() { }",
-            125u32,
-            "ok words 1204 stack 144",
-        ),
-        (
-            "fn init() { while 1 { x = 1; # } } fn loop() { }",
-            126,
-            "jump-need init 4112",
-        ),
-        (
-            "fn init() { if 1 { x = 1; # } else { x = 1; # } } fn loop() { }",
-            125,
-            "ok words 2218 stack 144",
+            126u32,
+            "ok words 1212 stack 144",
         ),
         (
             "fn init() { if 1 { } else { x = 1; # } } fn loop() { }",
-            126,
-            "jump-need init 4112",
+            4_070,
+            "ok words 32764 stack 144",
         ),
         (
-            "fn init() { } fn loop() { while 1 { while 1 { # } if 1 { # } } }",
-            127,
-            "jump-need loop 8264",
+            "fn init() { if 1 { } else { x = 1; # } } fn loop() { }",
+            4_071,
+            "code-need 32772",
+        ),
+    ] {
+        let text = with_skips(rt.alloc(), text, skips)?;
+        expect(&rt, rt.alloc(), text.as_str(), want)?;
+    }
+    Ok(())
+}
+
+#[test]
+fn frames_have_32768_bytes(rt: HostRuntime) -> Result<(), Fail> {
+    for (text, want) in [
+        (
+            "fn init() { stackalloc 32628 as p { } } fn loop() { }",
+            "ok words 272 stack 32768",
         ),
         (
-            "fn init() { while 1 { # } } fn loop() { while 2 { # } while 3 { skip; # } }",
-            127,
-            "jump-need init 4088",
+            "fn init() { stackalloc 32632 as p { } } fn loop() { }",
+            "frame-need init 32772",
         ),
         (
-            "fn init() { while 1 { # } } fn loop() { stackalloc 1896 as p { } }",
-            127,
-            "frame-need loop 2036",
+            "fn init() { f(); } fn loop() { } fn f() { stackalloc 32628 as p { g(); } } fn g() { stackalloc 32628 as p { } }",
+            "stack-need 65672",
+        ),
+        (
+            "fn init() { stackalloc 32628 as p { store4((p + 32624), 7); x = load4((p + 32624)); MMIOWRITE(0x1001200C, x); } } fn loop() { }",
+            "frame-need init 32784",
+        ),
+    ] {
+        expect(&rt, rt.alloc(), text, want)?;
+    }
+    Ok(())
+}
+
+// The words of a function with a frame of over 2,032 bytes count twice.
+#[test]
+fn far_frames_double_the_words(rt: HostRuntime) -> Result<(), Fail> {
+    for (text, skips, want) in [
+        (
+            "fn init() { stackalloc 1892 as p { # } } fn loop() { }",
+            2_031u32,
+            "ok words 16432 stack 2032",
+        ),
+        (
+            "fn init() { stackalloc 1896 as p { # } } fn loop() { }",
+            2_031,
+            "ok words 32768 stack 2036",
+        ),
+        (
+            "fn init() { stackalloc 1896 as p { # } } fn loop() { }",
+            2_032,
+            "code-need 32784",
+        ),
+        (
+            "fn init() { stackalloc 32632 as p { # } } fn loop() { }",
+            4_074,
+            "frame-need init 32772",
         ),
     ] {
         let text = with_skips(rt.alloc(), text, skips)?;
@@ -84,7 +120,7 @@ fn code_has_32768_words(rt: HostRuntime) -> Result<(), Fail> {
         (
             "fn init() { # } fn loop() { while 1 { # } }",
             4_074,
-            "jump-need loop 130392",
+            "code-need 65374",
         ),
     ] {
         let text = with_skips(rt.alloc(), text, skips)?;

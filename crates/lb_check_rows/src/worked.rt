@@ -17,7 +17,7 @@ fn answers_worked_examples(rt: HostRuntime) -> Result<(), Fail> {
         ),
         (
             "fn init() { stackalloc 1896 as p { } } fn loop() { }",
-            "frame-need init 2036",
+            "ok words 272 stack 2036",
         ),
         (
             "fn init() { stackalloc 6 as p { } } fn loop() { }",

@@ -1,4 +1,4 @@
-// The longest branch and the most brackets that are built, and one past each.
+// The longest branch and the most brackets that are built so far, and one past each.
 use lb_rows::call::{call_plain, whole};
 use std::alloc::{AllocError, Global};
 use std::test::Fail;
@@ -39,7 +39,7 @@ fn builds_branches_over_4080_bytes(rt: HostRuntime) -> Result<(), Fail> {
     let text = long_loop(rt.alloc(), 125)?;
     assert_eq!(rt; status(rt.alloc(), &text)?, 0);
     let past = long_loop(rt.alloc(), 126)?;
-    assert_eq!(rt; status(rt.alloc(), &past)?, 4);
+    assert_eq!(rt; status(rt.alloc(), &past)?, 10);
     Ok(())
 }
 

@@ -8,7 +8,7 @@ const CHECK: [&str; 2] = ["bulb", "check"];
 const EMPTY: &[u8] = b"fn init() { } fn loop() { }";
 
 // An input, the status and the line.
-const RULES: [(&str, u8, &str); 22] = [
+const RULES: [(&str, u8, &str); 25] = [
     (
         "fn init() { } fn loop() { }",
         0,
@@ -89,8 +89,23 @@ const RULES: [(&str, u8, &str); 22] = [
     ),
     (
         "fn init() { stackalloc 1896 as p { } } fn loop() { }",
+        0,
+        "ok functions 2 words 272 stack 2036\n",
+    ),
+    (
+        "fn init() { stackalloc 32628 as p { } } fn loop() { }",
+        0,
+        "ok functions 2 words 272 stack 32768\n",
+    ),
+    (
+        "fn init() { stackalloc 32632 as p { } } fn loop() { }",
         4,
-        "limit frame-need function init bytes 2036\n",
+        "limit frame-need function init bytes 32772\n",
+    ),
+    (
+        "fn init() { f(); } fn loop() { } fn f() { stackalloc 32628 as p { g(); } } fn g() { stackalloc 32628 as p { } }",
+        4,
+        "limit stack-need bytes 65672\n",
     ),
     // An earlier rule stands before a later one, wherever they are broken.
     (

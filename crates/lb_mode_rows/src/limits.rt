@@ -73,27 +73,22 @@ fn takes_256_functions(rt: HostRuntime) -> Result<(), Fail> {
     Ok(())
 }
 
-// The loop asks for 4 * (6 + 14 + 125 * 8) = 4,080 bytes, and 8 words more are 32 bytes more.
+// However long a branch is: 16 + 80 + 80 + 14 + 14 + 126 * 8 = 1,212 words.
 #[test]
 fn takes_branches_over_4080_bytes(rt: HostRuntime) -> Result<(), Fail> {
-    let before = "fn init() { while 1 { x = 1; ";
-    let behind = "} } fn loop() { }";
-    let most = repeated(rt.alloc(), before, "skip; ", 125, behind)?;
+    let text = repeated(
+        rt.alloc(),
+        "fn init() { while 1 { x = 1; ",
+        "skip; ",
+        126,
+        "} } fn loop() { }",
+    )?;
     assert!(rt;
         answers(
             rt.alloc(),
-            &most,
+            &text,
             0,
-            "ok functions 2 words 1204 stack 144\n"
-        )?
-    );
-    let past = repeated(rt.alloc(), before, "skip; ", 126, behind)?;
-    assert!(rt;
-        answers(
-            rt.alloc(),
-            &past,
-            4,
-            "limit jump-need function init bytes 4112\n"
+            "ok functions 2 words 1212 stack 144\n"
         )?
     );
     Ok(())

@@ -54,9 +54,9 @@ const TEXTS: [(&str, u8, &str); 11] = [
         "check recursion function f\n",
     ),
     (
-        "fn init() { stackalloc 1896 as p { } } fn loop() { }",
+        "fn init() { stackalloc 32632 as p { } } fn loop() { }",
         4,
-        "limit frame-need function init bytes 2036\n",
+        "limit frame-need function init bytes 32772\n",
     ),
     ("fn init() { ( }", 2, "text at 12 unexpected\n"),
 ];

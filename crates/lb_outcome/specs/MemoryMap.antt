@@ -1,6 +1,6 @@
 -- The memory map: which addresses are RAM's, and which are those of a device's word.
 use Rattle.std.specs.Prelude.{ℕ, ◌+◌, ◌%◌, nat_le, ◌==◌, ◌&&◌, Bool}
-use Rattle.lb_trace.specs.Devices.{is_device}
+use Rattle.lb_memory.specs.Map.{is_device}
 
 -- the number of bytes of RAM, which stands from address 0 on
 abbrev pub ram_size : ℕ

@@ -52,7 +52,7 @@ fn builds_frames_up_to_2032_bytes(rt: HostRuntime) -> Result<(), Fail> {
     assert_eq!(rt; a.status, 0);
     assert!(rt; a.frames.as_slice() == [4 * (473 + 1), 0].as_slice());
     let past = assignments(rt.alloc(), 474, 1)?;
-    assert_eq!(rt; status(rt.alloc(), &past)?, 4);
+    assert_eq!(rt; status(rt.alloc(), &past)?, 10);
     Ok(())
 }
 

@@ -21,12 +21,10 @@ pub fn source_run(
     let Some(checked) = checked_program(alloc, input)? else {
         return Ok(None);
     };
-    if !is_small(checked.program()) {
+    if !is_small(&checked) {
         return Ok(None);
     }
-    let Ok(built) = compile(alloc, checked.program()) else {
-        return Ok(None);
-    };
+    let built = compile(alloc, &checked)?;
     Ok(Some(interpret(alloc, &checked, &built.layout, fuel, replies)?))
 }
 

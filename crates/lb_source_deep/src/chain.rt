@@ -11,23 +11,42 @@ fn only(alloc: Global, command: Cmd) -> Result<Block, NotChecked> {
     Ok(Block { commands })
 }
 
-// `stackalloc 4 as x { .. }`
-fn allocated(alloc: Global, body: Block) -> Result<Block, NotChecked> {
-    only(
-        alloc,
-        Cmd::StackAlloc {
-            bytes: 4,
+/// Commands that hold a block.
+#[derive(Clone, Copy)]
+pub enum Nest {
+    /// `stackalloc BYTES as x { .. }`.
+    StackAlloc { bytes: u32 },
+    /// `if 1 { .. }`.
+    If,
+    /// `while 1 { .. }`.
+    While,
+}
+
+// The command that holds this block.
+fn holder(alloc: Global, nest: Nest, body: Block) -> Result<Cmd, NotChecked> {
+    let condition = Expr::Literal(1);
+    Ok(match nest {
+        Nest::StackAlloc { bytes } => Cmd::StackAlloc {
+            bytes,
             target: Name::new(alloc, b"x")?,
             body,
         },
-    )
+        Nest::If => Cmd::If {
+            condition,
+            yes: body,
+            no: Block {
+                commands: Items::new(alloc),
+            },
+        },
+        Nest::While => Cmd::While { condition, body },
+    })
 }
 
-// So many blocks in one another, and in the innermost this.
-fn nested(alloc: Global, blocks: u32, innermost: Block) -> Result<Block, NotChecked> {
+// So many such commands in one another, and in the innermost this.
+fn nested(alloc: Global, nest: Nest, count: u32, innermost: Block) -> Result<Block, NotChecked> {
     let mut block = innermost;
-    for _count in 0..blocks {
-        block = allocated(alloc, block)?;
+    for _count in 0..count {
+        block = only(alloc, holder(alloc, nest, block)?)?;
     }
     Ok(block)
 }
@@ -58,44 +77,44 @@ fn call(alloc: Global, name: &Name) -> Result<Block, NotChecked> {
     )
 }
 
-// The function of the first name; the rest are behind it.
-fn link(
-    alloc: Global,
-    name: &Name,
-    rest: &[Name],
-    each: u32,
-    last: u32,
-) -> Result<Function, NotChecked> {
-    let body = match rest {
-        [] => nested(alloc, last, report(alloc)?)?,
-        [next, ..] => nested(alloc, each, call(alloc, next)?)?,
-    };
-    Ok(Function {
-        name: Name::new(alloc, name.as_bytes())?,
-        params: Items::new(alloc),
-        results: Items::new(alloc),
-        body,
-    })
+/// Functions of which each calls the next, in its innermost block. The last reports there.
+pub struct Chain<'a> {
+    /// Their names, in order.
+    pub names: &'a [Name],
+    pub nest: Nest,
+    /// How deep the commands of each function but the last nest.
+    pub each: u32,
+    /// How deep those of the last one nest.
+    pub last: u32,
 }
 
-fn chain(alloc: Global, names: &[Name], each: u32, last: u32) -> Result<Program, NotChecked> {
-    let mut functions = Items::new(alloc);
-    for (i, name) in names.iter().enumerate() {
-        functions.push(link(alloc, name, &names[i + 1..], each, last)?)?;
+impl Chain<'_> {
+    // The function of the first of these names; the rest are behind it.
+    fn link(&self, alloc: Global, name: &Name, rest: &[Name]) -> Result<Function, NotChecked> {
+        let body = match rest {
+            [] => nested(alloc, self.nest, self.last, report(alloc)?)?,
+            [next, ..] => nested(alloc, self.nest, self.each, call(alloc, next)?)?,
+        };
+        Ok(Function {
+            name: Name::new(alloc, name.as_bytes())?,
+            params: Items::new(alloc),
+            results: Items::new(alloc),
+            body,
+        })
     }
-    Ok(Program { functions })
-}
 
-/// Runs a chain of functions of these names, with so many blocks in each and in the last. The blocks of each frame stand
-/// one after another.
-pub fn run_chain(
-    alloc: Global,
-    names: &[Name],
-    each: u32,
-    last: u32,
-    fuel: u64,
-) -> Result<SourceRun, NotChecked> {
-    let program = checked(alloc, chain(alloc, names, each, last)?)?;
-    let layout = packed_layout(alloc, &program)?;
-    Ok(interpret(alloc, &program, &layout, fuel, &[])?)
+    fn program(&self, alloc: Global) -> Result<Program, NotChecked> {
+        let mut functions = Items::new(alloc);
+        for (i, name) in self.names.iter().enumerate() {
+            functions.push(self.link(alloc, name, &self.names[i + 1..])?)?;
+        }
+        Ok(Program { functions })
+    }
+
+    /// Checks and runs them. The blocks of each frame stand one after another.
+    pub fn run(&self, alloc: Global, fuel: u64) -> Result<SourceRun, NotChecked> {
+        let program = checked(alloc, self.program(alloc)?)?;
+        let layout = packed_layout(alloc, &program)?;
+        Ok(interpret(alloc, &program, &layout, fuel, &[])?)
+    }
 }

@@ -1,7 +1,8 @@
-// The deepest programs. A command takes 8 words of code at least and a function 80 besides, so of the 32,768 words
-// that a program may ask for, n functions leave room for 4,094 - 10 n commands in one another. A frame has room for
-// 473 blocks. So nine functions reach deepest: with fewer the frames are full first.
-use crate::chain::run_chain;
+// The deepest programs. A command takes 8 words of code at least, an `if` or a `while` 14, and a function 80 besides, so of
+// the 32,768 words that a program may ask for, n functions leave room for 4,094 - 10 n commands in one another. A near
+// frame has room for 473 blocks of 4 bytes; the words of a function with a larger one count twice. So nine functions
+// reach deepest with blocks, and one with ifs or whiles.
+use crate::chain::{Chain, Nest};
 use lb_handmade::NotChecked;
 use lb_source::SourceEnd;
 use lb_syntax::Name;
@@ -28,14 +29,8 @@ fn names(alloc: Global, between: usize) -> Result<Items<Name>, NotChecked> {
 }
 
 // Whether the run comes to the innermost block so many times, and then spends the fuel.
-fn reaches(
-    alloc: Global,
-    names: &[Name],
-    blocks: (u32, u32),
-    fuel: u64,
-    times: usize,
-) -> Result<bool, NotChecked> {
-    let run = run_chain(alloc, names, blocks.0, blocks.1, fuel)?;
+fn reaches(alloc: Global, chain: &Chain, fuel: u64, times: usize) -> Result<bool, NotChecked> {
+    let run = chain.run(alloc, fuel)?;
     let trace = run.trace.as_slice();
     Ok(
         trace.len() == times
@@ -46,13 +41,16 @@ fn reaches(
 
 // Nine functions, of which eight fill their frames: 3,992 blocks in one another. The code is 32,764 words.
 #[test]
-fn fills_frames(rt: HostRuntime) -> Result<(), Fail> {
+fn fills_near_frames(rt: HostRuntime) -> Result<(), Fail> {
     let names = names(rt.alloc(), 7)?;
+    let chain = Chain {
+        names: names.as_slice(),
+        nest: Nest::StackAlloc { bytes: 4 },
+        each: 473,
+        last: 208,
+    };
     for (fuel, times) in [(8, 0), (9, 1), (11, 3)] {
-        assert!(rt;
-            reaches(rt.alloc(), names.as_slice(), (473, 208), fuel, times)?,
-            "fuel {fuel}"
-        );
+        assert!(rt; reaches(rt.alloc(), &chain, fuel, times)?, "fuel {fuel}");
     }
     Ok(())
 }
@@ -61,11 +59,53 @@ fn fills_frames(rt: HostRuntime) -> Result<(), Fail> {
 #[test]
 fn nests_calls(rt: HostRuntime) -> Result<(), Fail> {
     let names = names(rt.alloc(), 254)?;
+    let chain = Chain {
+        names: names.as_slice(),
+        nest: Nest::StackAlloc { bytes: 4 },
+        each: 5,
+        last: 0,
+    };
     for (fuel, times) in [(255, 0), (256, 1), (258, 3)] {
-        assert!(rt;
-            reaches(rt.alloc(), names.as_slice(), (5, 0), fuel, times)?,
-            "fuel {fuel}"
-        );
+        assert!(rt; reaches(rt.alloc(), &chain, fuel, times)?, "fuel {fuel}");
+    }
+    Ok(())
+}
+
+// Two frames of 32,768 bytes, which are all that the stack has.
+#[test]
+fn fills_the_stack(rt: HostRuntime) -> Result<(), Fail> {
+    let names = names(rt.alloc(), 0)?;
+    let chain = Chain {
+        names: names.as_slice(),
+        nest: Nest::StackAlloc { bytes: 32_624 },
+        each: 1,
+        last: 1,
+    };
+    for (fuel, times) in [(1, 0), (2, 1), (4, 3)] {
+        assert!(rt; reaches(rt.alloc(), &chain, fuel, times)?, "fuel {fuel}");
+    }
+    Ok(())
+}
+
+// One function with 2,325 ifs or whiles in one another. The code is 16 + 88 + 80 + 2,325 * 14 + 28 = 32,762 words.
+#[test]
+fn nests_conditions(rt: HostRuntime) -> Result<(), Fail> {
+    let names = names(rt.alloc(), 0)?;
+    for (nest, fuel, times) in [
+        (Nest::If, 1, 0),
+        (Nest::If, 2, 1),
+        (Nest::If, 4, 3),
+        (Nest::While, 2_326, 0),
+        (Nest::While, 2_327, 1),
+        (Nest::While, 2_329, 3),
+    ] {
+        let chain = Chain {
+            names: names.as_slice(),
+            nest,
+            each: 0,
+            last: 2_325,
+        };
+        assert!(rt; reaches(rt.alloc(), &chain, fuel, times)?, "fuel {fuel}");
     }
     Ok(())
 }
