@@ -4,16 +4,16 @@
 PROGRAM is the built program, crates/bulb/out/bulb unless it is given. Each text is read in the modes `print` and `check`
 at a quarter, a half and the whole of 1,048,576 bytes, which is the most that the program takes; the best of three runs counts.
 Reading is linear: the whole may take no more than eight times what a quarter takes (and 50 milliseconds, for the start).
+The ratio is that of the whole text to bench/parser.rs: `print` to its reading and printing, `check` to its reading alone.
 """
 import os
-import subprocess
-import sys
 import tempfile
-import time
+
+from measure import in_turn, program, ratio, yardstick
 
 MOST_BYTES = 1_048_576
 SIZES = (MOST_BYTES // 4, MOST_BYTES // 2, MOST_BYTES)
-MODES = ("print", "check")
+MODES = {"print": "print", "check": "read"}
 START = 0.05
 
 
@@ -69,35 +69,29 @@ TEXTS = {
 }
 
 
-def measure(program, mode, text, status):
-    """Seconds and peak memory in bytes of one run."""
-    with tempfile.TemporaryFile() as report, tempfile.TemporaryFile() as source:
-        source.write(text)
-        source.seek(0)
-        begin = time.perf_counter()
-        child = subprocess.Popen([program, mode], stdin=source, stdout=report)
-        _, ended, usage = os.wait4(child.pid, 0)
-        seconds = time.perf_counter() - begin
-        if os.waitstatus_to_exitcode(ended) != status:
-            raise SystemExit(f"{mode}: status {os.waitstatus_to_exitcode(ended)}, not {status}")
-    return seconds, usage.ru_maxrss * 1024
+def measure(mode, text, status, plain):
+    """What the program and the yardstick take for one text. The yardstick knows no rules: it refuses only what is no program."""
+    ours = ([program(), mode], status)
+    theirs = ([plain, MODES[mode]], status if status == 2 else 0) if plain else None
+    return in_turn(text, ours, theirs)
 
 
 def main():
-    here = os.path.dirname(os.path.abspath(__file__))
-    default = os.path.join(here, "..", "crates", "bulb", "out", "bulb")
-    program = sys.argv[1] if len(sys.argv) > 1 else default
     print(f"{os.cpu_count()} cores")
-    for name, (text_of, statuses) in TEXTS.items():
-        for mode, status in zip(MODES, statuses):
-            runs = [min(measure(program, mode, text_of(size), status) for _ in range(3)) for size in SIZES]
-            times = ", ".join(f"{seconds * 1000:.0f}" for seconds, _ in runs)
-            peak = max(memory for _, memory in runs)
-            print(f"{name}, {mode}: {times} ms at a quarter, a half, the whole; peak {peak / 1e6:.1f} MB")
-            if runs[-1][0] > 8 * runs[0][0] + START:
-                raise SystemExit("reading is not linear")
-    seconds, memory = min(measure(program, "check", worst_graph(), 0) for _ in range(3))
-    print(f"256 functions with 1,534 calls, check: {seconds * 1000:.0f} ms; peak {memory / 1e6:.1f} MB")
+    with tempfile.TemporaryDirectory() as folder:
+        plain = yardstick("parser", folder)
+        for name, (text_of, statuses) in TEXTS.items():
+            for mode, status in zip(MODES, statuses):
+                smaller = [measure(mode, text_of(size), status, None)[0] for size in SIZES[:-1]]
+                whole, other = measure(mode, text_of(MOST_BYTES), status, plain)
+                times = ", ".join(f"{run.seconds * 1000:.0f}" for run in [*smaller, whole])
+                print(f"{name}, {mode}: {times} ms at a quarter, a half, the whole{ratio(whole, other)}; peak {whole.peak / 1e6:.1f} MB")
+                if mode == "print" and other and status == 0 and other.printed != whole.printed:
+                    raise SystemExit("the two printed texts differ")
+                if whole.seconds > 8 * smaller[0].seconds + START:
+                    raise SystemExit("reading is not linear")
+        run, other = measure("check", worst_graph(), 0, plain)
+        print(f"256 functions with 1,534 calls, check: {run.seconds * 1000:.0f} ms{ratio(run, other)}; peak {run.peak / 1e6:.1f} MB")
 
 
 if __name__ == "__main__":
