@@ -1,0 +1,3 @@
+pub mod FrameLemmas
+pub mod PhaseLemmas
+pub mod WorkedRows
