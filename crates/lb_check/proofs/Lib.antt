@@ -1,5 +1,4 @@
-pub mod BlockLemmas
-pub mod TreeFacts
+pub mod OrderLemmas
 pub mod Tell
 pub mod NameSets
 pub mod NameCounts

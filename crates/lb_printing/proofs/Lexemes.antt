@@ -8,9 +8,9 @@ use Rattle.std.specs.Str.Parse.{digits_value}
 use Rattle.std.proofs.lemmas.Bool.{and_parts, and_from, and_left, and_right, or_parts, cond-false, lt-ltb}
 use Rattle.std.proofs.lemmas.Bool.Decides.{nat_tests}
 use Rattle.std.proofs.lemmas.Fmt.{digits_decimal, digits_value-decimal, decimal_nonempty}
-use Rattle.std.proofs.lemmas.Str.Parse.{IsNumeralModel, numerals_by_value, tells_all_ascii_digits}
 use Rattle.lb_syntax.specs.Names.{Text, IsName, starts_name, is_reserved}
 use Rattle.lb_syntax.specs.WellFormed.{IsWord}
+use Rattle.lb_syntax.proofs.OpenTermLemmas.{decimal_numerals}
 use Rattle.lb_spelling.specs.Tokens.{Numeral, Named, begins_with, same, is_hex, value, spelling, fixed, lexeme}
 use Rattle.lb_spelling.proofs.Words.{is_based, number_decimal, same_is, word_parts, name_parts, name_word}
 use Rattle.lb_spelling.proofs.Lexing.{number_is, name_is}
@@ -48,9 +48,6 @@ name_lexeme x h = name_is x (name_word x h) (not_fixed x (free_word x h))
 
 -- ---- numbers
 
-own : IsNumeralModel (λ ds. all_ascii_digits ds ≡ true) (digits_value 10)
-own = numerals_by_value _ tells_all_ascii_digits
-
 ascii_digit : (b : ℕ) → is_ascii_digit b ≡ true → is_digit b 10 ≡ true
 ascii_digit b h = grind (arith, nat_tests)
 
@@ -85,10 +82,10 @@ digits_lexeme (a ∷ w) n all some is small =
     number_is (a ∷ w) (number_decimal (a ∷ w) hex ∙ based) ∙ ap (λ (v : ℕ). Some (Numeral v)) valued
 
 pub decimal_digits : (n : ℕ) → IsWord n → all_ascii_digits (decimal n) ≡ true
-decimal_digits n h = digits_decimal own n (omega (arith, h))
+decimal_digits n h = digits_decimal decimal_numerals n (omega (arith, h))
 
 pub decimal_some : (n : ℕ) → IsWord n → 0 < length (decimal n)
 decimal_some n h = decimal_nonempty n (omega (arith, h))
 
 pub decimal_lexeme : (n : ℕ) → IsWord n → lexeme (decimal n) ≡ Some (Numeral n)
-decimal_lexeme n h = digits_lexeme (decimal n) n (decimal_digits n h) (decimal_some n h) (digits_value-decimal own n (omega (arith, h))) h
+decimal_lexeme n h = digits_lexeme (decimal n) n (decimal_digits n h) (decimal_some n h) (digits_value-decimal decimal_numerals n (omega (arith, h))) h

@@ -17,6 +17,7 @@ use Rattle.lb_spelling.specs.Tokens.{Numeral, Named, lexeme, same, value, is_emp
 use Rattle.lb_spelling.specs.Machine.{Stack, Part, Go, Fail, ended, has_ended, Stuck, run, step, next, taken, begins, begins_one, begins_number, unexpected, kind_in}
 use Rattle.lb_spelling.proofs.Words.{false_from, same_is, same_itself, hex_more, number_hex, number_decimal, word_parts, name_parts, digit_word, is_based}
 use Rattle.lb_spelling.proofs.Lexing.{number_is, any_number}
+use Rattle.lb_spelling.proofs.Wide.{value_hex, value_decimal}
 use Rattle.lb_spelling.proofs.Running.{run_step, run_fail, word_runs}
 use Rattle.lb_scan.specs.declared.stop.Stop.{Stop}
 use Rattle.lb_scan.specs.Scanning.{EndsRun, Digits, ReadsDigits, DigitsFault, NoDigitFault, ReadsNumber, NumberFault, IsStuckIn}
@@ -59,16 +60,8 @@ based r s before rest p = and_from _ _ (and_from _ _ (full before p.some) p.all)
 not_hex_front : (u v : List ℕ) → is_hex (u ++ v) ≡ false → is_hex u ≡ false
 not_hex_front u v e = false_from _ (λ h. true≢false (sym (hex_more u v h) ∙ e))
 
-value_decimal : (w : List ℕ) → is_hex w ≡ false → value w ≡ digits_value 10 w
-unfolding value
-value_decimal w h = rw h refl
-
 decimal_lexeme : (w : List ℕ) → is_hex w ≡ false → is_based 10 w ≡ true → lexeme w ≡ Some (Numeral (digits_value 10 w))
 decimal_lexeme w h e = number_is w (number_decimal w h ∙ e) ∙ ap (λ (n : ℕ). Some (Numeral n)) (value_decimal w h)
-
-value_hex : (ds : List ℕ) → value (48 ∷ 120 ∷ ds) ≡ digits_value 16 ds
-unfolding value is_hex begins_with
-value_hex ds = refl
 
 hex_lexeme : (ds : List ℕ) → is_based 16 ds ≡ true → lexeme (48 ∷ 120 ∷ ds) ≡ Some (Numeral (digits_value 16 ds))
 hex_lexeme ds e = number_is (48 ∷ 120 ∷ ds) (number_hex ds ∙ e) ∙ ap (λ (n : ℕ). Some (Numeral n)) (value_hex ds)

@@ -1,5 +1,3 @@
-pub mod BlockLemmas
-pub mod TreeFacts
 pub mod SlotLemmas
 pub mod CodeLengths
 pub mod PatchLemmas

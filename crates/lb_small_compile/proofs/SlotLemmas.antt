@@ -5,7 +5,7 @@ use Rattle.lb_syntax.specs.declared.tree.Cmd.{Cmd}
 use Rattle.lb_syntax.specs.Tree.{Command, command_of}
 use Rattle.lb_syntax.specs.Needs.{command_names}
 use Rattle.lb_small_code.specs.Slots.{with_name, with_names}
-use Rattle.lb_small_compile.proofs.BlockLemmas.{rest, rest_at}
+use Rattle.lb_syntax.proofs.BlockLemmas.{rest, rest_at}
 
 with_names-append : (known xs ys : List Text) → with_names known (xs ++ ys) ≡ with_names (with_names known xs) ys
 with_names-append known [] ys = refl

@@ -11,15 +11,8 @@ use Rattle.lb_source.specs.declared.ends.SourceEnd.TheVariants.{Spent}
 use Rattle.lb_source.specs.Run.{State, Outcome, Goes, Stops, then_do, with_value, at_zero, spend, value_in, values_in, block_at, allocated, released, turns, Caller, run_with, Callable, callee, entered, enter, calls, run}
 use Rattle.lb_source.specs.Source.{callables, start, call_of, to_end, for_ever, whole}
 use Rattle.lb_source.specs.Laws.{AnyBoundServes}
+use Rattle.lb_source.proofs.OutcomeLemmas.{value_same, zero_same, spend_same}
 use Rattle.lb_source.proofs.Onward.{fuel_of, Onward, CallsOnward, run_with_onward, enter_spends, calls_onward, run_onward}
-
-value_same : {A : Type 0} (r : Result A Reason) (s : State) (f g : A → Outcome) → ((v : A) → f v ≡ g v) → with_value r s f ≡ with_value r s g
-value_same (Ok v) s f g h = h v
-value_same (Err e) s f g h = refl
-
-zero_same : (v : ℕ) (a b c d : Outcome) → a ≡ c → b ≡ d → at_zero v a b ≡ at_zero v c d
-zero_same zero a b c d h k = h
-zero_same (suc v) a b c d h k = k
 
 then_both : (k : ℕ) (o : Outcome) (f g : State → Outcome) → fuel_of o ≤ k → ((u : State) → u.fuel ≤ k → f u ≡ g u) → then_do o f ≡ then_do o g
 then_both k (Goes s) f g le h = h s le
@@ -27,10 +20,6 @@ then_both k (Stops t e) f g le h = refl
 
 then_same : (k : ℕ) (o p : Outcome) (f g : State → Outcome) → o ≡ p → fuel_of o ≤ k → ((u : State) → u.fuel ≤ k → f u ≡ g u) → then_do o f ≡ then_do p g
 then_same k o p f g e le h = then_both k o f g le h ∙ ap (λ q. then_do q g) e
-
-spend_same : (n : ℕ) (s : State) (f g : State → Outcome) → ((h : ℕ) → n ≡ suc h → f (record s { fuel = h }) ≡ g (record s { fuel = h })) → spend n s f ≡ spend n s g
-spend_same zero s f g h = refl
-spend_same (suc n) s f g h = h n refl
 
 pub spend_none : (n : ℕ) (s : State) (go : State → Outcome) → n ≡ 0 → spend n s go ≡ Stops s.trace Spent
 spend_none n s go e = ap (λ f. spend f s go) e

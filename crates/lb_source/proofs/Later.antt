@@ -9,6 +9,7 @@ use Rattle.lb_syntax.specs.declared.layout.Layout.{Layout}
 use Rattle.lb_syntax.specs.declared.tree.Action.{Action}
 use Rattle.lb_syntax.specs.declared.tree.Action.TheVariants.{Read, Write}
 use Rattle.lb_trace.specs.Prefix.{IsPrefix}
+use Rattle.lb_trace.proofs.PrefixLemmas.{IsPrefix-refl, IsPrefix-trans}
 use Rattle.lb_trace.specs.declared.Event.{Event}
 use Rattle.lb_source.specs.declared.ends.Reason.{Reason}
 use Rattle.lb_source.specs.declared.ends.SourceRun.{SourceRun}
@@ -17,7 +18,7 @@ use Rattle.lb_source.specs.Value.{byte_count}
 use Rattle.lb_source.specs.Run.{State, Outcome, Goes, Stops, then_do, with_value, at_zero, spend, ask, unless, value_in, values_in, set, block_at, allocated, released, address_fault, access, store, turns, Caller, run_with, Callable, callee, entered, returned, enter, calls, run}
 use Rattle.lb_source.specs.Source.{callables, start, call_of, to_end, for_ever, whole, src}
 use Rattle.lb_source.specs.Laws.{GoesOn, MoreFuelGoesOn}
-use Rattle.lb_source.proofs.Onward.{prefix_refl, prefix_trans, trace_of, Onward, then_onward, value_onward, spend_onward, turns_onward, CallsOnward, run_with_onward, enter_onward, calls_onward, run_onward}
+use Rattle.lb_source.proofs.Onward.{trace_of, Onward, then_onward, value_onward, spend_onward, turns_onward, CallsOnward, run_with_onward, enter_onward, calls_onward, run_onward}
 
 abbrev with_more : State → State
 with_more s = record s { fuel = suc s.fuel }
@@ -30,7 +31,7 @@ Later (Stops trace Starved) o = o ≡ Stops trace Starved
 Later (Stops trace (Undefined e)) o = o ≡ Stops trace (Undefined e)
 
 then_prefix : (t : List Event) (o : Outcome) (go : State → Outcome) → IsPrefix t (trace_of o) → ((s : State) → Onward s.trace s.fuel (go s)) → IsPrefix t (trace_of (then_do o go))
-then_prefix t (Goes s) go h k = prefix_trans _ _ _ h (k s).prefix
+then_prefix t (Goes s) go h k = IsPrefix-trans h (k s).prefix
 then_prefix t (Stops u e) go h k = h
 
 then_later : (o p : Outcome) (f g : State → Outcome) → Later o p → ((s : State) → Later (f s) (g (with_more s))) → ((s : State) → Onward s.trace s.fuel (g s)) → Later (then_do o f) (then_do p g)
@@ -88,7 +89,7 @@ module _ (call more : Caller) (calls : (f : Text) (vs : List ℕ) (xs : List Tex
   run_with_later os (Stores w a e) s = value_later (value_in s a) s _ _ (λ p. value_later (value_in s e) s _ _ (λ v. value_later (store (byte_count w) p v s.memory) s _ _ (λ m. refl)))
   run_with_later os (Allocates k x b) s =
       let base = block_at s.stack os in
-      then_later (run_with call n (drop 1 os) b (allocated base k x s)) (run_with more (suc n) (drop 1 os) b (with_more (allocated base k x s))) (released base k) (released base k) (run_with_later (drop 1 os) b (allocated base k x s)) (λ u. refl) (λ u. record { prefix = prefix_refl u.trace; falls = omega arith })
+      then_later (run_with call n (drop 1 os) b (allocated base k x s)) (run_with more (suc n) (drop 1 os) b (with_more (allocated base k x s))) (released base k) (released base k) (run_with_later (drop 1 os) b (allocated base k x s)) (λ u. refl) (λ u. record { prefix = IsPrefix-refl u.trace; falls = omega arith })
   run_with_later os (Chooses e b d) s =
       value_later (value_in s e) s _ _ (λ v. zero_later v _ _ _ _ (run_with_later (drop (length (sites b)) os) d s) (run_with_later os b s))
   run_with_later os (Repeats e b) s = turns_later n e (run_with call n os b) (run_with more (suc n) os b) s (run_with_later os b) (run_with_onward more onward (suc n) os b)
@@ -100,10 +101,10 @@ module _ (call more : Caller) (calls : (f : Text) (vs : List ℕ) (xs : List Tex
 
 module _ (body more : List ℕ → Command → State → Outcome) (h : (os : List ℕ) (c : Command) (s : State) → Later (body os c s) (more os c (with_more s))) (m : (os : List ℕ) (c : Command) (s : State) → Onward s.trace s.fuel (more os c s)) where
   enter_later : (o : Option Callable) (vs : List ℕ) (xs : List Text) (s : State) → Later (enter o body vs xs s) (enter o more vs xs (with_more s))
-  enter_later None vs xs s = prefix_refl s.trace
+  enter_later None vs xs s = IsPrefix-refl s.trace
   enter_later (Some g) vs xs s =
       let back = λ (u : State). with_value (values_in u (map Variable g.results)) u (λ rs. Goes (returned xs rs s u)) in
-      let on : (u : State) → Onward u.trace u.fuel (back u) = λ u. value_onward (values_in u (map Variable g.results)) u _ (λ rs. record { prefix = prefix_refl u.trace; falls = omega arith }) in
+      let on : (u : State) → Onward u.trace u.fuel (back u) = λ u. value_onward (values_in u (map Variable g.results)) u _ (λ rs. record { prefix = IsPrefix-refl u.trace; falls = omega arith }) in
       spend_later s.fuel s (λ t. then_do (body g.offsets g.body (entered g vs t)) back) (λ t. then_do (more g.offsets g.body (entered g vs t)) back)
       (λ t. then_later (body g.offsets g.body (entered g vs t)) (more g.offsets g.body (with_more (entered g vs t))) back back (h g.offsets g.body (entered g vs t)) (λ u. value_later (values_in u (map Variable g.results)) u _ _ (λ rs. refl)) on)
       (λ t. let a = m g.offsets g.body (entered g vs t) in then_onward t.trace t.fuel (more g.offsets g.body (entered g vs t)) back (record { prefix = a.prefix; falls = a.falls }) on)
@@ -119,15 +120,15 @@ call_later : (p : List Callable) (n : ℕ) (f : Text) (s : State) → Later (cal
 call_later p n f s = enter_later (run p n) (run p (suc n)) (run_later p n) (run_onward p (suc n)) (callee p f) [] [] s
 
 end_prefix : (t : List Event) (o : Outcome) (go : State → SourceRun) → IsPrefix t (trace_of o) → ((s : State) → IsPrefix s.trace (go s).trace) → IsPrefix t (to_end o go).trace
-end_prefix t (Goes s) go h k = prefix_trans _ _ _ h (k s)
+end_prefix t (Goes s) go h k = IsPrefix-trans h (k s)
 end_prefix t (Stops u e) go h k = h
 
 pub ever_prefix : (n : ℕ) (g : State → Outcome) (s : State) → ((u : State) → IsPrefix u.trace (trace_of (g u))) → IsPrefix s.trace (for_ever n g s).trace
-ever_prefix zero g s h = prefix_refl s.trace
+ever_prefix zero g s h = IsPrefix-refl s.trace
 ever_prefix (suc n) g s h = end_prefix s.trace (g s) (for_ever n g) (h s) (λ u. ever_prefix n g u h)
 
 goes_refl : (r : SourceRun) → GoesOn r r
-goes_refl r = record { prefix = prefix_refl r.trace; stays = λ h. refl }
+goes_refl r = record { prefix = IsPrefix-refl r.trace; stays = λ h. refl }
 
 end_later : (o p : Outcome) (f g : State → SourceRun) → Later o p → ((s : State) → GoesOn (f s) (g (with_more s))) → ((s : State) → IsPrefix s.trace (g s).trace) → GoesOn (to_end o f) (to_end p g)
 end_later (Goes s) p f g h k m = subst (λ q. GoesOn (f s) (to_end q g)) (sym h) (k s)
@@ -147,7 +148,7 @@ whole_later p n s =
 
 goes_trans : (a b c : SourceRun) → GoesOn a b → GoesOn b c → GoesOn a c
 goes_trans a b c h k = record {
-  prefix = prefix_trans _ _ _ h.prefix k.prefix;
+  prefix = IsPrefix-trans h.prefix k.prefix;
   stays = λ no. let e = h.stays no in k.stays (λ spent. no (sym (ap (λ (r : SourceRun). r.end) e) ∙ spent)) ∙ e;
 }
 

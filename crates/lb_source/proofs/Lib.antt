@@ -1,3 +1,4 @@
+pub mod OutcomeLemmas
 pub mod Onward
 pub mod Bounds
 pub mod Later
@@ -8,7 +9,6 @@ pub mod RunFacts
 pub mod FindFacts
 pub mod BlockFacts
 pub mod ArmFacts
-pub mod CommandFacts
 pub mod EverFacts
 pub mod FrameFacts
 mod StackLemmas

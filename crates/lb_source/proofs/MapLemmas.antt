@@ -4,6 +4,7 @@ use Rattle.std.specs.Prelude.{if◌then◌else◌, cond, not}
 use Rattle.std.specs.Str.{bytes_eq}
 use Rattle.std.proofs.lemmas.Slice.Eq.{bytes_eq-Decides}
 use Rattle.lb_syntax.specs.Names.{Text}
+use Rattle.lb_syntax.proofs.DistinctLemmas.{bytes_eq-same, bytes_eq-refl}
 use Rattle.lb_source.specs.declared.variables.Entry.{Entry}
 use Rattle.lb_source.specs.Maps.{put}
 use Rattle.lb_source.specs.Machine.{without, variables_of}
@@ -11,18 +12,11 @@ use Rattle.lb_source.specs.Machine.{without, variables_of}
 pub same_everywhere : {A B : Type 0} (f g : A → B) → ((x : A) → f x ≡ g x) → f ≡ g
 same_everywhere f g h = λ i x. h x i
 
--- a test by bytes that is true is an equation
-pub same_text : (x y : Text) → bytes_eq x y ≡ true → x ≡ y
-same_text x y = (bytes_eq-Decides x y).0
-
-pub text_same : (x : Text) → bytes_eq x x ≡ true
-text_same x = (bytes_eq-Decides x x).1 refl
-
 -- two names that are equal to a third
 other_text : (a x y : Text) → bytes_eq a x ≡ false → bytes_eq a y ≡ true → bytes_eq x y ≡ false
 other_text a x y n e =
-    let same : a ≡ y = same_text a y e in
-    flips (bytes_eq x y) (λ t. let back : a ≡ x = same ∙ sym (same_text x y t) in
+    let same : a ≡ y = bytes_eq-same a y e in
+    flips (bytes_eq x y) (λ t. let back : a ≡ x = same ∙ sym (bytes_eq-same x y t) in
     let yes : bytes_eq a x ≡ true = (bytes_eq-Decides a x).1 back in cc)
   where
     flips : (b : Bool) → (b ≡ true → ⊥) → b ≡ false
@@ -45,7 +39,7 @@ not_both false c v r h = refl
 
 without_at : (x y : Text) (e : Entry) (es : List Entry) → variables_of (without x es) y ≡ put x None (variables_of es) y → (a : Bool) → bytes_eq e.name x ≡ a → variables_of (cond (not a) (e ∷ without x es) (without x es)) y ≡ put x None (variables_of (e ∷ es)) y
 without_at x y e es ih true h =
-    let same : bytes_eq e.name y ≡ bytes_eq x y = ap (λ t. bytes_eq t y) (same_text e.name x h) in
+    let same : bytes_eq e.name y ≡ bytes_eq x y = ap (λ t. bytes_eq t y) (bytes_eq-same e.name x h) in
     ih ∙ kept_twice (bytes_eq x y) (Some e.value) (variables_of es y) ∙ ap (λ b. if bytes_eq x y then None else (if b then Some e.value else variables_of es y)) (sym same)
 without_at x y e es ih false h =
     ap (λ r. if bytes_eq e.name y then Some e.value else r) ih
@@ -79,6 +73,6 @@ variables_of-append (d ∷ es) e y h = append_at d es e y h (variables_of-append
 
 pub variables_of-push : (x y : Text) (v : ℕ) (es : List Entry) → variables_of (without x es ++ record { name = x; value = v } ∷ []) y ≡ put x (Some v) (variables_of es) y
 variables_of-push x y v es =
-    variables_of-append (without x es) (record { name = x; value = v }) y (variables_of-without x x es ∙ ap (λ b. if b then None else variables_of es x) (text_same x))
+    variables_of-append (without x es) (record { name = x; value = v }) y (variables_of-without x x es ∙ ap (λ b. if b then None else variables_of es x) (bytes_eq-refl x))
     ∙ ap (λ o. if bytes_eq x y then Some v else o) (variables_of-without x y es)
     ∙ twice (bytes_eq x y) (Some v) None (variables_of es y)

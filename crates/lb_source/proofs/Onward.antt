@@ -8,20 +8,12 @@ use Rattle.lb_syntax.specs.Needs.{sites}
 use Rattle.lb_syntax.specs.declared.tree.Action.{Action}
 use Rattle.lb_syntax.specs.declared.tree.Action.TheVariants.{Read, Write}
 use Rattle.lb_trace.specs.Prefix.{IsPrefix}
+use Rattle.lb_trace.proofs.PrefixLemmas.{IsPrefix-refl, IsPrefix-trans, IsPrefix-append}
 use Rattle.lb_trace.specs.declared.Event.{Event}
 use Rattle.lb_trace.specs.declared.Event.TheVariants.{Ld, St}
 use Rattle.lb_source.specs.declared.ends.Reason.{Reason}
 use Rattle.lb_source.specs.Value.{byte_count}
 use Rattle.lb_source.specs.Run.{State, Outcome, Goes, Stops, then_do, with_value, at_zero, spend, ask, unless, value_in, values_in, set, block_at, allocated, released, address_fault, access, store, turns, Caller, run_with, Callable, callee, entered, returned, enter, calls, run}
-
-pub prefix_refl : (a : List Event) → IsPrefix a a
-prefix_refl a = record { rest = []; whole = sym (append-nil a) }
-
-pub prefix_trans : (a b c : List Event) → IsPrefix a b → IsPrefix b c → IsPrefix a c
-prefix_trans a b c p q = record { rest = p.rest ++ q.rest; whole = q.whole ∙ ap (λ l. l ++ q.rest) p.whole ∙ append_assoc a p.rest q.rest }
-
-pub prefix_more : (a : List Event) (e : Event) → IsPrefix a (a ++ e ∷ [])
-prefix_more a e = record { rest = e ∷ []; whole = refl }
 
 -- the trace so far, or at the end
 abbrev pub trace_of : Outcome → List Event
@@ -39,13 +31,13 @@ pub record Onward (trace : List Event) (fuel : ℕ) (o : Outcome) : Type 0 where
   pub falls : fuel_of o ≤ fuel
 
 pub goes_onward : (s : State) → Onward s.trace s.fuel (Goes s)
-goes_onward s = record { prefix = prefix_refl s.trace; falls = omega arith }
+goes_onward s = record { prefix = IsPrefix-refl s.trace; falls = omega arith }
 
 pub stops_onward : (t : List Event) (f : ℕ) (e : Rattle.lb_source.specs.declared.ends.SourceEnd.SourceEnd) → Onward t f (Stops t e)
-stops_onward t f e = record { prefix = prefix_refl t; falls = omega arith }
+stops_onward t f e = record { prefix = IsPrefix-refl t; falls = omega arith }
 
 pub then_onward : (t : List Event) (f : ℕ) (o : Outcome) (go : State → Outcome) → Onward t f o → ((s : State) → Onward s.trace s.fuel (go s)) → Onward t f (then_do o go)
-then_onward t f (Goes s) go h k = record { prefix = prefix_trans _ _ _ h.prefix (k s).prefix; falls = let a = (k s).falls in let b = h.falls in omega (arith, a, b) }
+then_onward t f (Goes s) go h k = record { prefix = IsPrefix-trans h.prefix (k s).prefix; falls = let a = (k s).falls in let b = h.falls in omega (arith, a, b) }
 then_onward t f (Stops u e) go h k = h
 
 pub value_onward : {A : Type 0} (r : Result A Reason) (s : State) (go : A → Outcome) → ((v : A) → Onward s.trace s.fuel (go v)) → Onward s.trace s.fuel (with_value r s go)
@@ -69,7 +61,7 @@ unless_onward (Some e) s go h = stops_onward s.trace s.fuel _
 
 read_onward : (rs : List ℕ) (a : ℕ) (x : Text) (s : State) → Onward s.trace s.fuel (ask rs a s (λ v t. Goes (set x v t)))
 read_onward [] a x s = stops_onward s.trace s.fuel _
-read_onward (r ∷ rs) a x s = record { prefix = prefix_more s.trace (Ld a r); falls = omega arith }
+read_onward (r ∷ rs) a x s = record { prefix = IsPrefix-append s.trace (Ld a r ∷ []); falls = omega arith }
 
 access_onward : (k : Action) (xs : List Text) (vs : List ℕ) (s : State) → Onward s.trace s.fuel (access k xs vs s)
 access_onward Read [] vs s = goes_onward s
@@ -79,7 +71,7 @@ access_onward Read (x ∷ []) (a ∷ v ∷ vs) s = goes_onward s
 access_onward Read (x ∷ y ∷ xs) vs s = goes_onward s
 access_onward Write [] [] s = goes_onward s
 access_onward Write [] (a ∷ []) s = goes_onward s
-access_onward Write [] (a ∷ v ∷ []) s = unless_onward (address_fault a) s _ (record { prefix = prefix_more s.trace (St a v); falls = omega arith })
+access_onward Write [] (a ∷ v ∷ []) s = unless_onward (address_fault a) s _ (record { prefix = IsPrefix-append s.trace (St a v ∷ []); falls = omega arith })
 access_onward Write [] (a ∷ v ∷ w ∷ vs) s = goes_onward s
 access_onward Write (x ∷ xs) vs s = goes_onward s
 
@@ -95,11 +87,11 @@ module _ (call : Caller) (calls : CallsOnward call) (n : ℕ) where
   pub run_with_onward : (os : List ℕ) (c : Command) (s : State) → Onward s.trace s.fuel (run_with call n os c s)
   run_with_onward os Skips s = goes_onward s
   run_with_onward os (Sets x e) s = value_onward (value_in s e) s _ (λ v. goes_onward (set x v s))
-  run_with_onward os (Unsets x) s = record { prefix = prefix_refl s.trace; falls = omega arith }
-  run_with_onward os (Stores w a e) s = value_onward (value_in s a) s _ (λ p. value_onward (value_in s e) s _ (λ v. value_onward (store (byte_count w) p v s.memory) s _ (λ m. record { prefix = prefix_refl s.trace; falls = omega arith })))
+  run_with_onward os (Unsets x) s = record { prefix = IsPrefix-refl s.trace; falls = omega arith }
+  run_with_onward os (Stores w a e) s = value_onward (value_in s a) s _ (λ p. value_onward (value_in s e) s _ (λ v. value_onward (store (byte_count w) p v s.memory) s _ (λ m. record { prefix = IsPrefix-refl s.trace; falls = omega arith })))
   run_with_onward os (Allocates k x b) s =
       let base = block_at s.stack os in
-      then_onward s.trace s.fuel (run_with call n (drop 1 os) b (allocated base k x s)) (released base k) (run_with_onward (drop 1 os) b (allocated base k x s)) (λ u. record { prefix = prefix_refl u.trace; falls = omega arith })
+      then_onward s.trace s.fuel (run_with call n (drop 1 os) b (allocated base k x s)) (released base k) (run_with_onward (drop 1 os) b (allocated base k x s)) (λ u. record { prefix = IsPrefix-refl u.trace; falls = omega arith })
   run_with_onward os (Chooses e b d) s = value_onward (value_in s e) s _ (λ v. zero_onward s.trace s.fuel v _ _ (run_with_onward (drop (length (sites b)) os) d s) (run_with_onward os b s))
   run_with_onward os (Repeats e b) s = turns_onward n e _ s (run_with_onward os b)
   run_with_onward os (Calls xs f es) s = value_onward (values_in s es) s _ (λ vs. calls f vs xs s)
@@ -110,7 +102,7 @@ module _ (call : Caller) (calls : CallsOnward call) (n : ℕ) where
 -- a call spends one fuel
 module _ (body : List ℕ → Command → State → Outcome) (onward : (os : List ℕ) (c : Command) (s : State) → Onward s.trace s.fuel (body os c s)) where
   inside : (g : Callable) (vs : List ℕ) (xs : List Text) (s t : State) → Onward t.trace t.fuel (then_do (body g.offsets g.body (entered g vs t)) (λ u. with_value (values_in u (map Variable g.results)) u (λ rs. Goes (returned xs rs s u))))
-  inside g vs xs s t = then_onward t.trace t.fuel (body g.offsets g.body (entered g vs t)) _ (onward g.offsets g.body (entered g vs t)) (λ u. value_onward (values_in u (map Variable g.results)) u _ (λ rs. record { prefix = prefix_refl u.trace; falls = omega arith }))
+  inside g vs xs s t = then_onward t.trace t.fuel (body g.offsets g.body (entered g vs t)) _ (onward g.offsets g.body (entered g vs t)) (λ u. value_onward (values_in u (map Variable g.results)) u _ (λ rs. record { prefix = IsPrefix-refl u.trace; falls = omega arith }))
 
   spends : (f : ℕ) (s : State) (go : State → Outcome) → ((u : State) → Onward u.trace u.fuel (go u)) → Onward s.trace (f - 1) (spend f s go)
   spends zero s go h = stops_onward s.trace _ _

@@ -33,15 +33,6 @@ module _ (p : List Callable) (os0 os : List ℕ) (c0 c rest : Command) (m0 m m' 
 pub leaves_done : (p : List Callable) (os0 os : List ℕ) (c0 : Command) (m0 m : Machine) → Leaves p os0 c0 m0 os Ends m → Follows p os0 c0 m0 On m
 leaves_done p os0 os c0 m0 m l = λ n h. l.rest n h
 
--- the next command of a block
-pub chain_at : (cs : List Cmd) (i : ℕ) (d : Cmd) → i < length cs → d ≡ get_or cs i d → chain (map command_of (drop i cs)) ≡ Then (command_of d) (chain (map command_of (drop (i + 1) cs)))
-chain_at cs i d h e =
-    let all : drop i cs ≡ get_or cs i d ∷ drop (i + 1) cs = rw (add-one, drop-cons cs i d) in
-    ap (λ l. chain (map command_of l)) all ∙ ap (λ c. Then (command_of c) (chain (map command_of (drop (i + 1) cs)))) (sym e)
-
-pub chain_past : (cs : List Cmd) (i : ℕ) → length cs ≤ i → chain (map command_of (drop i cs)) ≡ Ends
-chain_past cs i h = ap (λ l. chain (map command_of l)) (drop_all i cs h)
-
 -- the same between two turns of a loop
 pub record LeavesTurns (p : List Callable) (os : List ℕ) (e : Term) (b : Command) (m0 m : Machine) : Type 0 where
   pub fuel : m.fuel ≤ m0.fuel

@@ -22,6 +22,7 @@ use Rattle.lb_source.specs.Maps.{Memory}
 use Rattle.lb_source.specs.Value.{byte_count}
 use Rattle.lb_source.specs.Run.{State, Outcome, Goes, Stops, then_do, with_value, at_zero, spend, ask, unless, value_in, values_in, set, block_at, allocated, released, address_fault, access, store, turns, returned, Caller, run_with, Callable, callee, entered, enter, calls, run}
 use Rattle.lb_source.specs.Source.{callable, callables, start, call_of, to_end, for_ever}
+use Rattle.lb_source.proofs.OutcomeLemmas.{value_same, zero_same, spend_same}
 use Rattle.lb_source.specs.Stack.{enter_above, calls_above, call_of_above, whole_above, stack_floor, StackStaysAbove}
 
 -- ---- what a part of a program leaves of the stack pointer
@@ -131,18 +132,6 @@ within P (Calls xs f es) h = h f (0, omega arith, refl)
 within P (Then c b) h = (within P c (λ x m. h x (left_of c b x m)), within P b (λ x m. h x (right_of c b x m)))
 within P _ h = tt
 
-value_same : {A : Type 0} (r : Result A Reason) (s : State) (f g : A → Outcome) → ((v : A) → f v ≡ g v) → with_value r s f ≡ with_value r s g
-value_same (Ok v) s f g h = h v
-value_same (Err e) s f g h = refl
-
-zero_same : (v : ℕ) (a b c d : Outcome) → a ≡ c → b ≡ d → at_zero v a b ≡ at_zero v c d
-zero_same zero a b c d h k = h
-zero_same (suc v) a b c d h k = k
-
-spend_same : (n : ℕ) (s : State) (f g : State → Outcome) → ((h : ℕ) → f (record s { fuel = h }) ≡ g (record s { fuel = h })) → spend n s f ≡ spend n s g
-spend_same zero s f g h = refl
-spend_same (suc n) s f g h = h n
-
 then_both : (k : ℕ) (o : Outcome) (f g : State → Outcome) → StaysAt k o → ((u : State) → u.stack ≡ k → f u ≡ g u) → then_do o f ≡ then_do o g
 then_both k (Goes s) f g at h = h s at
 then_both k (Stops t e) f g at h = refl
@@ -153,7 +142,7 @@ then_same k o p f g e at h = ap (λ q. then_do q f) e ∙ then_both k p f g at h
 turns_same : (k n : ℕ) (e : Term) (f g : State → Outcome) (s : State) → s.stack ≡ k → ((u : State) → u.stack ≡ k → f u ≡ g u) → ((u : State) → u.stack ≡ k → StaysAt k (g u)) → turns n e f s ≡ turns n e g s
 turns_same k zero e f g s here h stays = refl
 turns_same k (suc n) e f g s here h stays =
-    value_same (value_in s e) s _ _ (λ v. zero_same v _ _ _ _ refl (spend_same s.fuel s _ _ (λ q.
+    value_same (value_in s e) s _ _ (λ v. zero_same v _ _ _ _ refl (spend_same s.fuel s _ _ (λ q eq.
     let t = record s { fuel = q } in
     then_same k (f t) (g t) (turns n e f) (turns n e g) (h t here) (stays t here) (λ u at. turns_same k n e f g u at h stays))))
 
@@ -237,7 +226,7 @@ module _ (p : List Procedure) (rules : KeepsRules p) (ps : List Callable) (finds
       let fits : stack_floor + g.frame ≤ s.stack = omega (arith, room, need, more_need, small) in
       let calls_them : (y : Text) → Type 0 = λ y. Contains (callees h) y in
       ap (λ b. if b then enter (Some g) (run_with call n) vs xs s else below s) (le-leb (stack_floor + g.frame) s.stack fits)
-      ∙ spend_same s.fuel s _ _ (λ q.
+      ∙ spend_same s.fuel s _ _ (λ q eq.
       ap (λ r. then_do r (λ u. with_value (values_in u (map Variable g.results)) u (λ rs. Goes (returned xs rs s u))))
       (run_same call more calls_them (s.stack - g.frame) (λ y ws ys u m at. agree h is y ws ys u m (omega (arith, at, room, more_need, small, fits))) stays n g.offsets g.body (entered g vs (record s { fuel = q }))
       (subst (Within calls_them) (sym o.body) (within calls_them h.body (λ y m. m))) refl))

@@ -30,11 +30,11 @@ based_wide r ds b all d none = ltb-false (digits_value r (ds ++ b ∷ [])) (2 ^ 
   digits_all : list_all (λ b. is_digit b r) (ds ++ b ∷ []) ≡ true
   digits_all = list_all-append (λ b. is_digit b r) ds (b ∷ []) ∙ and_from _ _ all (and_from (is_digit b r) true d refl)
 
-value_hex : (ds : List ℕ) → value (48 ∷ 120 ∷ ds) ≡ digits_value 16 ds
+pub value_hex : (ds : List ℕ) → value (48 ∷ 120 ∷ ds) ≡ digits_value 16 ds
 unfolding value is_hex begins_with
 value_hex ds = refl
 
-value_decimal : (w : List ℕ) → is_hex w ≡ false → value w ≡ digits_value 10 w
+pub value_decimal : (w : List ℕ) → is_hex w ≡ false → value w ≡ digits_value 10 w
 unfolding value
 value_decimal w h = rw h refl
 

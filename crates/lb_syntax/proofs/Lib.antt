@@ -1,3 +1,5 @@
+pub mod TreeFacts
+pub mod BlockLemmas
 pub mod DistinctLemmas
 pub mod SetLemmas
 pub mod OpenLemmas

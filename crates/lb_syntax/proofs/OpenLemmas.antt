@@ -32,7 +32,7 @@ abbrev pub is_plain : Text → Bool
 is_plain [] = true
 is_plain (b ∷ text) = is_plain_byte b && is_plain text
 
-least_open : (n : ℕ) (text : Text) → n ≤ most_open n text
+pub least_open : (n : ℕ) (text : Text) → n ≤ most_open n text
 least_open n [] = omega arith
 least_open n (b ∷ text) = omega arith
 

@@ -32,11 +32,12 @@ digits_plain (b ∷ text) h =
     let both = and_parts (is_ascii_digit b) (all_ascii_digits text) h in
     and_from (is_plain_byte b) (is_plain text) (digit_plain b both.0) (digits_plain text both.1)
 
-own : IsNumeralModel (λ ds. all_ascii_digits ds ≡ true) (digits_value 10)
-own = numerals_by_value _ tells_all_ascii_digits
+-- strings of decimal digits have the numbers that they denote
+pub decimal_numerals : IsNumeralModel (λ ds. all_ascii_digits ds ≡ true) (digits_value 10)
+decimal_numerals = numerals_by_value _ tells_all_ascii_digits
 
 pub decimal_plain : (n : ℕ) → IsWord n → is_plain (decimal n) ≡ true
-decimal_plain n h = digits_plain (decimal n) (digits_decimal own n (omega (arith, h)))
+decimal_plain n h = digits_plain (decimal n) (digits_decimal decimal_numerals n (omega (arith, h)))
 
 name_byte_plain : (b : ℕ) → is_name_byte b ≡ true → is_plain_byte b ≡ true
 name_byte_plain b h = grind (arith, nat_tests)

@@ -4,7 +4,8 @@ use Rattle.std.proofs.lemmas.Result.{err_from_is_err_and}
 use Rattle.lb_syntax.specs.Tree.{term_of, command_of, block_of, procedure_of}
 use Rattle.lb_check.specs.Order.{commands}
 use Rattle.lb_check.specs.Faults.{command_faults}
-use Rattle.lb_check.proofs.TreeFacts.{says_if, inner, command_first}
+use Rattle.lb_syntax.proofs.TreeFacts.{says_if}
+use Rattle.lb_check.proofs.OrderLemmas.{inner, command_first}
 use Rattle.lb_check.proofs.Tell.{tells_same, tells_front, if_front, if_rest}
 use Rattle.lb_check.proofs.commands.+walk.Goals as goal
 

@@ -4,7 +4,7 @@ use Rattle.lb_syntax.specs.Tree.{procedure_of, block_of}
 use Rattle.lb_check.specs.Order.{commands}
 use Rattle.lb_check.specs.Parts.{body_parts}
 use Rattle.lb_check.specs.Faults.{command_faults}
-use Rattle.lb_check.proofs.BlockLemmas.{rest}
+use Rattle.lb_syntax.proofs.BlockLemmas.{rest}
 use Rattle.lb_check.proofs.commands.+walk.Given as goal
 
 -- no fault so far: the faults of what is left are the faults of all

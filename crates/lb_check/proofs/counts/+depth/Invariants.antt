@@ -2,7 +2,7 @@ use Rattle.std.proofs.Common.{◌≡◌, ◌+◌, ◌≤◌, max}
 use Rattle.lb_syntax.specs.Tree.{block_of}
 use Rattle.lb_syntax.specs.Needs.{greatest_depth}
 use Rattle.lb_check.specs.Parts.{body_parts}
-use Rattle.lb_check.proofs.BlockLemmas.{rest}
+use Rattle.lb_syntax.proofs.BlockLemmas.{rest}
 use Rattle.lb_check.proofs.counts.+depth.Given as goal
 
 -- the deepest so far and the deepest of what is left are the deepest of all

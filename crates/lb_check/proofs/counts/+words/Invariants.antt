@@ -2,7 +2,7 @@ use Rattle.std.proofs.Common.{◌≡◌, ◌+◌, ◌*◌, ◌≤◌}
 use Rattle.lb_syntax.specs.Tree.{block_of}
 use Rattle.lb_syntax.specs.Needs.{words}
 use Rattle.lb_check.specs.Parts.{body_parts}
-use Rattle.lb_check.proofs.BlockLemmas.{rest}
+use Rattle.lb_syntax.proofs.BlockLemmas.{rest}
 use Rattle.lb_check.proofs.counts.+words.Given as goal
 
 -- what was counted and what is left to count is all

@@ -1,20 +1,21 @@
-use Rattle.std.proofs.Common.{◌≡◌, ◌+◌, ◌*◌, ◌++◌, drop}
-use Rattle.std.specs.Prelude.{map, max}
+use Rattle.std.proofs.Common.{◌≡◌, ◌+◌, ◌*◌, ◌++◌}
+use Rattle.std.specs.Prelude.{max}
 use Rattle.lb_syntax.specs.declared.tree.Block.{size-Block}
 use Rattle.lb_syntax.specs.declared.tree.Cmd.{size-Cmd}
-use Rattle.lb_syntax.specs.Tree.{command_of, block_of, chain}
+use Rattle.lb_syntax.specs.Tree.{block_of}
 use Rattle.lb_syntax.specs.WellFormed.{IsBlock}
 use Rattle.lb_syntax.specs.Printing.{command_text}
+use Rattle.lb_syntax.proofs.BlockLemmas.{rest}
 use Rattle.lb_printing.proofs.command.+add_command.Given as goal
 
 -- the rest is what the text lacks, and the block is well formed if the rest is
 abbrev pub invariant-add_block-loop-c : goal.invariant-add_block-loop-c
 invariant-add_block-loop-c l =
-    let rest = chain (map command_of (drop l.c-index l.c-items)) in
+    let left = rest l.c-items l.c-index in
     let whole = block_of l.block in
     record {
-      printed : l.text.items ++ command_text l.depth rest ≡ l.fn.text.items ++ command_text l.depth whole;
-      well_formed : IsBlock rest → IsBlock whole;
+      printed : l.text.items ++ command_text l.depth left ≡ l.fn.text.items ++ command_text l.depth whole;
+      well_formed : IsBlock left → IsBlock whole;
     }
 
 abbrev pub decreases-add_block : goal.decreases-add_block

@@ -2,7 +2,7 @@ use Rattle.std.proofs.Common.{◌≡◌, max}
 use Rattle.lb_syntax.specs.Tree.{block_of}
 
 use Rattle.lb_small_code.specs.Small.{IsSmallBlock, longest_branch, most_branch}
-use Rattle.lb_small_compile.proofs.BlockLemmas.{rest}
+use Rattle.lb_syntax.proofs.BlockLemmas.{rest}
 use Rattle.lb_small_compile.proofs.branches.+branches.Given as goal
 
 -- the branches so far are within the limit, so it is those that are left that count

@@ -2,7 +2,7 @@ use Rattle.std.proofs.Common.{◌≡◌, ◌+◌}
 use Rattle.lb_syntax.specs.Tree.{block_of}
 use Rattle.lb_syntax.specs.Needs.{words}
 use Rattle.lb_small_code.specs.Small.{IsSmallBlock}
-use Rattle.lb_small_compile.proofs.BlockLemmas.{rest}
+use Rattle.lb_syntax.proofs.BlockLemmas.{rest}
 use Rattle.lb_small_compile.proofs.branches.+words.Given as goal
 
 -- what was counted and what is left to count is all

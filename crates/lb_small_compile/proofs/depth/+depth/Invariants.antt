@@ -2,7 +2,7 @@ use Rattle.std.proofs.Common.{◌≡◌, ◌≤◌, max}
 use Rattle.lb_syntax.specs.Tree.{block_of}
 use Rattle.lb_syntax.specs.Needs.{greatest_depth, words}
 use Rattle.lb_small_code.specs.Small.{IsSmallBlock}
-use Rattle.lb_small_compile.proofs.BlockLemmas.{rest}
+use Rattle.lb_syntax.proofs.BlockLemmas.{rest}
 use Rattle.lb_small_compile.proofs.depth.+depth.Given as goal
 
 -- the deepest so far and the deepest of what is left are the deepest of all

@@ -5,7 +5,7 @@ use Rattle.lb_syntax.specs.Needs.{words, greatest_depth}
 use Rattle.lb_small_code.specs.Small.{IsSmallBlock}
 use Rattle.lb_small.specs.declared.instr.SmallInstr.TheVariants.{Jal, Beq}
 use Rattle.lb_small_code.specs.Code.{immediate, minus, term_code, command_code}
-use Rattle.lb_small_compile.proofs.BlockLemmas.{rest, rest_at}
+use Rattle.lb_syntax.proofs.BlockLemmas.{rest, rest_at}
 use Rattle.lb_small_code.proofs.CodeLemmas.{length-term_code}
 use Rattle.lb_small_compile.proofs.CodeLengths.{length-command_code, length-block_code}
 use Rattle.lb_small_compile.proofs.PatchLemmas.{longer, one_longer, as_long, with_choice, with_loop}

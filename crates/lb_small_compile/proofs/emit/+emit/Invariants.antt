@@ -6,7 +6,7 @@ use Rattle.lb_syntax.specs.Tree.{block_of}
 use Rattle.lb_syntax.specs.Needs.{greatest_depth, words}
 use Rattle.lb_small_code.specs.Small.{IsSmallBlock}
 use Rattle.lb_small_code.specs.Code.{command_code}
-use Rattle.lb_small_compile.proofs.BlockLemmas.{rest}
+use Rattle.lb_syntax.proofs.BlockLemmas.{rest}
 use Rattle.lb_small_compile.proofs.emit.+emit.Given as goal
 
 abbrev pub decreases-emit_block : goal.decreases-emit_block

@@ -1,6 +1,6 @@
 use Rattle.lb_syntax.specs.Tree.{block_of}
 use Rattle.lb_small_code.specs.Small.{IsSmallBlock}
-use Rattle.lb_small_compile.proofs.BlockLemmas.{rest}
+use Rattle.lb_syntax.proofs.BlockLemmas.{rest}
 use Rattle.lb_small_compile.proofs.small.+small.Given as goal
 
 -- what is left to see decides

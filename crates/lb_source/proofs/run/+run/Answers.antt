@@ -5,9 +5,10 @@ use Rattle.lb_syntax.specs.Tree.{Sets, Stores, Allocates, Calls, Chooses}
 use Rattle.lb_source.specs.Source.{callables}
 use Rattle.lb_source.specs.Run.{value_in}
 use Rattle.lb_source.specs.Machine.{state_of}
-use Rattle.lb_source.proofs.CommandFacts.{says_set, says_store, says_call, says_allocates, says_if}
+use Rattle.lb_syntax.proofs.BlockLemmas.{rest_at, rest_end}
+use Rattle.lb_syntax.proofs.TreeFacts.{says_set, says_store, says_call, says_allocates, says_if}
 use Rattle.lb_source.proofs.ArmFacts.{arm, set_follows, no_follows, yes_follows, allocated_ends, allocated_goes, remade, first_and_rest, entry_ends, entry_goes}
-use Rattle.lb_source.proofs.RunFacts.{leaves_next, leaves_end, leaves_done, chain_at, chain_past, loop_wrong, loop_over, loop_spent, loop_next, loop_end, is_more, is_suc}
+use Rattle.lb_source.proofs.RunFacts.{leaves_next, leaves_end, leaves_done, loop_wrong, loop_over, loop_spent, loop_next, loop_end, is_more, is_suc}
 use Rattle.lb_source.proofs.run.+run.Goals as goal
 
 pub run_command-returns-in-Set-clause-follows : goal.run_command-returns-in-Set-clause-follows
@@ -71,19 +72,19 @@ run_loop-returns-in-End-clause-follows t c =
 
 pub run_block-returns-in-End-clause-follows : goal.run_block-returns-in-End-clause-follows
 run_block-returns-in-End-clause-follows t c =
-    let here = chain_at c.as_slice-c-items.result.now c.loop-c.c-index c.c-item.result c.loop-c-test.true c.c-item.is in
+    let here = rest_at c.as_slice-c-items.result.now c.loop-c.c-index c.c-item.result c.loop-c-test.true c.c-item.is in
     leaves_end _ _ _ _ _ _ _ c.loop-c.m c.run_command.new.m (rw here at c.loop-c.invariant.1) c.in-End.end (rw c.in-End.is at c.in_ok-run_command.ensures.follows)
 
 pub run_block-loop-c-preserved : goal.run_block-loop-c-preserved
 run_block-loop-c-preserved t c =
-    let here = chain_at c.as_slice-c-items.result.now c.loop-c.c-index c.c-item.result c.loop-c-test.true c.c-item.is in
+    let here = rest_at c.as_slice-c-items.result.now c.loop-c.c-index c.c-item.result c.loop-c-test.true c.c-item.is in
     let all = rw here at c.loop-c.invariant.0 in
     let still : c.run_command.new.m.stack ≡ c.loop-c.m.stack = c.in_ok-run_command.ensures.stack in
     rw c.after_command-rest.ensures (rw still all.1, leaves_next _ _ _ _ _ _ _ c.loop-c.m c.run_command.new.m (rw here at c.loop-c.invariant.1) (rw c.in-On.is at c.in_ok-run_command.ensures.follows) c.run_command.ensures.fuel still)
 
 pub run_block-returns-clause-follows : goal.run_block-returns-clause-follows
 run_block-returns-clause-follows t c =
-    let past = chain_past c.as_slice-c-items.result.now c.loop-c.c-index c.loop-c-test.false in leaves_done _ _ _ _ _ _ (rw past at c.loop-c.invariant.1)
+    let past = rest_end c.as_slice-c-items.result.now c.loop-c.c-index c.loop-c-test.false in leaves_done _ _ _ _ _ _ (rw past at c.loop-c.invariant.1)
 
 pub enter-returns-in-End-clause-follows : goal.enter-returns-in-End-clause-follows
 enter-returns-in-End-clause-follows t c =

@@ -1,9 +1,10 @@
-use Rattle.std.proofs.Common.{◌+◌, ◌*◌, drop}
-use Rattle.std.specs.Prelude.{map, ◌-◌}
+use Rattle.std.proofs.Common.{◌+◌, ◌*◌}
+use Rattle.std.specs.Prelude.{◌-◌}
 use Rattle.lb_memory.specs.declared.TheConstants.{STACK_TOP}
-use Rattle.lb_syntax.specs.Tree.{term_of, command_of, block_of, program_of, chain}
+use Rattle.lb_syntax.specs.Tree.{term_of, block_of, program_of}
 use Rattle.lb_syntax.specs.declared.tree.Cmd.{size-Cmd}
 use Rattle.lb_syntax.specs.declared.tree.Block.{size-Block}
+use Rattle.lb_syntax.proofs.BlockLemmas.{rest}
 use Rattle.lb_source.specs.Source.{callables}
 use Rattle.lb_source.specs.Machine.{BlocksFit, deepest}
 use Rattle.lb_source.proofs.RunFacts.{Leaves, LeavesTurns}
@@ -29,9 +30,9 @@ decreases-enter l = l.m.now.fuel * (2 * deepest l.program.now.functions + 5)
 
 abbrev pub invariant-run_block-loop-c : goal.invariant-run_block-loop-c
 invariant-run_block-loop-c l =
-    let rest = chain (map command_of (drop l.c-index l.c-items)) in
+    let left = rest l.c-items l.c-index in
     let p = callables (program_of l.program) l.layout.frames in
-    BlocksFit (STACK_TOP - l.m.stack) l.rest rest × Leaves p l.offsets (block_of l.block) l.initial.m l.rest rest l.m
+    BlocksFit (STACK_TOP - l.m.stack) l.rest left × Leaves p l.offsets (block_of l.block) l.initial.m l.rest left l.m
 
 abbrev pub invariant-run_loop-turns : goal.invariant-run_loop-turns
 invariant-run_loop-turns l = LeavesTurns (callables (program_of l.program) l.layout.frames) l.offsets (term_of l.condition) (block_of l.body) l.initial.m l.m

@@ -3,10 +3,10 @@ use Rattle.std.specs.Prelude.{map}
 use Rattle.std.proofs.lemmas.Result.{err_from_is_err_and, IfOk-weaker, IfErr-weaker}
 use Rattle.std.proofs.lemmas.List.{map_push}
 use Rattle.lb_syntax.specs.Tree.{command_of, block_of}
+use Rattle.lb_syntax.proofs.TreeFacts.{says_block, says_empty}
 use Rattle.lb_scan.specs.Words.{token_of}
 use Rattle.lb_text.proofs.Words.{named_is_name}
 use Rattle.lb_text.proofs.Blocks.{block_read, block_fails, no_commands_yet, one_more_command, commands_fail, commands_end, command_then, no_else, else_read, else_fails, else_fails_behind}
-use Rattle.lb_text.proofs.Trees.{block_of-commands, block_of-none}
 use Rattle.lb_text.proofs.Words.{begins, as_commands}
 use Rattle.lb_text.proofs.command.+block.Goals as goal
 
@@ -23,7 +23,7 @@ pub commands-loop-word-init : goal.commands-loop-word-init
 commands-loop-word-init t c = rw c.new-commands.ensures (no_commands_yet c.requires c.in_ok-word.ensures.found)
 
 pub commands-returns-in-CloseBrace-clause-found : goal.commands-returns-in-CloseBrace-clause-found
-commands-returns-in-CloseBrace-clause-found t c = rw (block_of-commands c.loop-word.commands) (commands_end (rw c.in-CloseBrace.is at c.loop-word.invariant))
+commands-returns-in-CloseBrace-clause-found t c = rw (says_block c.loop-word.commands) (commands_end (rw c.in-CloseBrace.is at c.loop-word.invariant))
 
 pub commands-command-requires : goal.commands-command-requires
 commands-command-requires t c = (search rules, (c.requires, (c.loop-word.invariant.took, begins c.loop-word.word c.in_default.not-CloseBrace c.loop-word.invariant.took.takes.taken)))
@@ -46,7 +46,7 @@ commands-loop-word-preserved t c =
 
 pub otherwise-returns-in_default : goal.otherwise-returns-in_default
 otherwise-returns-in_default t c = record {
-  found = no_else _ c.requires (block_of-none c.new-commands.result c.new-commands.ensures) (as_commands c.in_ok-word.word c.in_default.not-Else) c.in_ok-word.ensures.found;
+  found = no_else _ c.requires (says_empty c.new-commands.result c.new-commands.ensures) (as_commands c.in_ok-word.word c.in_default.not-Else) c.in_ok-word.ensures.found;
   fault = tt;
 }
 

@@ -1,7 +1,9 @@
+use Rattle.std.proofs.Common.{refl}
 use Rattle.std.proofs.lemmas.Result.{IfOk-weaker, IfErr-weaker}
+use Rattle.lb_syntax.specs.declared.tree.Expr.TheVariants as exprs
+use Rattle.lb_syntax.proofs.TreeFacts.{says_literal, says_var}
 use Rattle.lb_text.proofs.Words.{named_is_name}
 use Rattle.lb_text.proofs.Steps.{reads_all, fails_all, nothing_more}
-use Rattle.lb_text.proofs.Trees.{term_of-Literal, term_of-Var}
 use Rattle.lb_text.proofs.term.+term.Goals as goal
 
 pub term-returns-clause-found : goal.term-returns-clause-found
@@ -14,7 +16,7 @@ pub term_from-checked-requires : goal.term_from-checked-requires
 term_from-checked-requires t c = let p = rw c.in-Name.is at c.requires.took in named_is_name _ _ _ p.takes.stands
 
 pub term_from-returns-in-Number-clause-found : goal.term_from-returns-in-Number-clause-found
-term_from-returns-in-Number-clause-found t c = rw (c.in-Number.is, term_of-Literal c.in-Number.value) (nothing_more _ _ _ c.requires.depth)
+term_from-returns-in-Number-clause-found t c = rw (c.in-Number.is, says_literal (exprs.Literal c.in-Number.value) c.in-Number.value refl) (nothing_more _ _ _ c.requires.depth)
 
 pub term_from-returns-in_ok-checked-in-Name-clause-found : goal.term_from-returns-in_ok-checked-in-Name-clause-found
-term_from-returns-in_ok-checked-in-Name-clause-found t c = rw (c.in-Name.is, c.in_ok-checked-in-Name.ensures, term_of-Var c.in-Name.spelling.now) (nothing_more _ _ _ c.requires.depth)
+term_from-returns-in_ok-checked-in-Name-clause-found t c = rw (c.in-Name.is, c.in_ok-checked-in-Name.ensures, says_var (exprs.Var c.in-Name.spelling.now) c.in-Name.spelling.now refl) (nothing_more _ _ _ c.requires.depth)

@@ -7,8 +7,8 @@ use Rattle.lb_syntax.specs.Needs.{term_names, command_names}
 use Rattle.lb_small_code.specs.Small.{IsSmallBlock}
 use Rattle.lb_small_compile.specs.declared.slots.TheConstants.{MOST_SLOTS}
 use Rattle.lb_small_compile.specs.declared.slots_error.SlotsError.TheVariants.{TooMany}
-use Rattle.lb_small_compile.proofs.BlockLemmas.{rest_at}
-use Rattle.lb_small_compile.proofs.TreeFacts.{says_set, says_if, says_while}
+use Rattle.lb_syntax.proofs.BlockLemmas.{rest_at}
+use Rattle.lb_syntax.proofs.TreeFacts.{says_set, says_if, says_while}
 use Rattle.lb_small_compile.proofs.SlotLemmas.{in_parts, over_front, rest_in_parts, over_at}
 use Rattle.lb_small_compile.proofs.slots.Slots.+add.Goals as goal
 

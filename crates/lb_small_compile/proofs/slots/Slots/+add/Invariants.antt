@@ -3,7 +3,7 @@ use Rattle.lb_syntax.specs.Tree.{block_of}
 use Rattle.lb_syntax.specs.Needs.{command_names}
 use Rattle.lb_small_code.specs.Small.{IsSmallBlock}
 use Rattle.lb_small_code.specs.Slots.{with_names}
-use Rattle.lb_small_compile.proofs.BlockLemmas.{rest}
+use Rattle.lb_syntax.proofs.BlockLemmas.{rest}
 use Rattle.lb_small_compile.proofs.slots.Slots.+add.Given as goal
 
 -- the names of what is left, behind those so far, are the names of all

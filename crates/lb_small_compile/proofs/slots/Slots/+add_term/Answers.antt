@@ -6,7 +6,7 @@ use Rattle.lb_syntax.specs.Tree.{term_of}
 use Rattle.lb_syntax.specs.Needs.{term_names}
 use Rattle.lb_small_compile.specs.declared.slots.TheConstants.{MOST_SLOTS}
 use Rattle.lb_small_compile.specs.declared.slots_error.SlotsError.TheVariants.{TooMany}
-use Rattle.lb_small_compile.proofs.TreeFacts.{says_binary}
+use Rattle.lb_syntax.proofs.TreeFacts.{says_binary}
 use Rattle.lb_small_compile.proofs.SlotLemmas.{in_parts, over_front}
 use Rattle.lb_small_compile.proofs.slots.Slots.+add_term.Goals as goal
 

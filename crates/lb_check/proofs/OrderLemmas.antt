@@ -1,15 +1,9 @@
--- What the forms of the tree say.
-use Rattle.std.proofs.Common.{◌≡◌, List, [], ◌∷◌, ◌++◌, refl, sym, ap, ◌∙◌, subst}
-use Rattle.lb_syntax.specs.Tree.{Command, Allocates, Chooses, Repeats, term_of, command_of, block_of, command_layer, block_layer}
-use Rattle.lb_syntax.specs.declared.tree.Expr.{Expr}
-use Rattle.lb_syntax.specs.declared.tree.Block.{Block}
-use Rattle.lb_syntax.specs.declared.tree.Cmd.{Cmd, Cmd-F, fold-roll-Cmd, fold_out-Cmd}
+-- The commands of a command in text order.
+use Rattle.std.proofs.Common.{◌≡◌, List, [], ◌∷◌, ◌++◌, refl, sym, subst}
+use Rattle.lb_syntax.specs.Tree.{Command, Allocates, Chooses, Repeats, command_of, command_layer, block_layer}
+use Rattle.lb_syntax.specs.declared.tree.Cmd.{Cmd, Cmd-F, fold_out-Cmd}
 use Rattle.lb_syntax.specs.declared.tree.Cmd.TheOpen as open-Cmd
-use Rattle.lb_syntax.specs.declared.tree.Cmd.TheVariants as cmd
 use Rattle.lb_check.specs.Order.{commands}
-
-pub says_if : (c : Cmd) (e : Expr) (b d : Block) → c ≡ cmd.If e b d → command_of c ≡ Chooses (term_of e) (block_of b) (block_of d)
-says_if c e b d is = ap command_of (is ∙ sym (cmd.rolls-If e b d)) ∙ fold-roll-Cmd Command Command command_layer block_layer (open-Cmd.If e b d)
 
 -- the commands that stand in a command
 abbrev pub inner : Command → List Command
