@@ -9,7 +9,8 @@ use Rattle.lb_check.specs.declared.fault.CheckError.{CheckError}
 use Rattle.lb_check.specs.declared.fault.CheckError.TheVariants.{Fault, Memory}
 use Rattle.lb_check.specs.declared.rule.Rule.{Rule}
 use Rattle.lb_check.specs.Faults.{faults}
-use Rattle.lb_check.specs.Verdict.{Question, Keeps, IsKept, IsFirstBroken, Tells, Settles}
+use Rattle.lb_check.specs.Verdict.{Question, Keeps, IsKept, IsFirstBroken}
+use Rattle.lb_check.specs.InternalVerdict.{Tells, Settles}
 
 rules_next : (rules : List Rule) (i : ℕ) (d : Rule) → i < length rules → map Keeps (drop i rules) ≡ Keeps (get_or rules i d) ∷ map Keeps (drop (i + 1) rules)
 rules_next rules i d h = at_drop_more (map Keeps) rules i d h

@@ -8,7 +8,8 @@ use Rattle.lb_check.specs.declared.fault.CheckFault.{CheckFault}
 use Rattle.lb_check.specs.declared.fault.CheckError.{CheckError}
 use Rattle.lb_check.specs.declared.fault.CheckError.TheVariants.{Fault, Memory}
 use Rattle.lb_check.specs.Order.{commands}
-use Rattle.lb_check.specs.Verdict.{Tells, IsFirst}
+use Rattle.lb_check.specs.Verdict.{IsFirst}
+use Rattle.lb_check.specs.InternalVerdict.{Tells}
 
 pub tells_same : (xs ys : List CheckFault) (r : Result (Unit {0}) CheckError) → xs ≡ ys → Tells ys r → Tells xs r
 tells_same xs ys r e h = subst (λ (zs : List CheckFault). Tells zs r) (sym e) h

@@ -1,6 +1,5 @@
 -- Which fault a program is refused for: that of the first rule that it breaks, at its first place.
-use Rattle.std.specs.Prelude.{◌≡◌, ℕ, ◌<◌, ◌≤◌, ◌⊎◌, List, [], ◌∷◌, ◌++◌, map, Result, Ok, Err, All}
-use Rattle.std.specs.List.{AllByRecursion}
+use Rattle.std.specs.Prelude.{◌≡◌, ℕ, ◌<◌, ◌≤◌, ◌⊎◌, List, [], ◌∷◌, ◌++◌, map, All}
 use Rattle.lb_memory.specs.declared.TheConstants.{MOST_STACK}
 use Rattle.lb_syntax.specs.Tree.{Procedure}
 use Rattle.lb_syntax.specs.Calls.{IsCallPath, IsRecursive, IsStackNeed, path_need}
@@ -46,12 +45,6 @@ abbrev pub IsFirst : List CheckFault → CheckFault → Type 0
 IsFirst [] fault = ⊥
 IsFirst (f ∷ fs) fault = fault ≡ f
 
--- what a walk over a list of faults answers: the first of them, or that there is none; want of memory tells nothing
-abbrev pub Tells : List CheckFault → Result (Unit {0}) CheckError → Type 0
-Tells fs (Ok _) = fs ≡ []
-Tells fs (Err (Fault fault)) = IsFirst fs fault
-Tells fs (Err Memory) = Unit {0}
-
 -- f is the first function of the program from which a path of calls leads back to it
 pub record IsFirstRecursive (p : List Procedure) (f : Procedure) : Type 0 where
   pub earlier : List Procedure
@@ -70,12 +63,6 @@ IsBroken p FitsStack fault = (n : ℕ) × IsStackNeed p n × (MOST_STACK < n) ×
 abbrev pub IsFirstBroken : List Procedure → List Question → CheckFault → Type 0
 IsFirstBroken p [] fault = ⊥
 IsFirstBroken p (q ∷ qs) fault = IsBroken p q fault ⊎ (IsKept p q × IsFirstBroken p qs fault)
-
--- a yes to each of these questions, or the first no; want of memory tells nothing
-abbrev pub Settles : List Procedure → List Question → Result (Unit {0}) CheckError → Type 0
-Settles p qs (Ok _) = AllByRecursion (IsKept p) qs
-Settles p qs (Err (Fault fault)) = IsFirstBroken p qs fault
-Settles p qs (Err Memory) = Unit {0}
 
 -- the fault for which a program is refused
 abbrev pub IsFirstFault : List Procedure → CheckFault → Type 0

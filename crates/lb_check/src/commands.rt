@@ -4,7 +4,7 @@ ghost use Rattle.lb_syntax.specs.Tree.{Procedure, command_of, block_of, procedur
 ghost use Rattle.lb_check.specs.Parts.{body_parts, parts};
 ghost use Rattle.lb_check.specs.Order.{commands, repeated};
 ghost use Rattle.lb_check.specs.Faults.{has_shape, command_faults, faults};
-ghost use Rattle.lb_check.specs.Verdict.{Tells};
+ghost use Rattle.lb_check.specs.InternalVerdict.{Tells};
 
 use crate::fault::{CheckError, CheckFault};
 use crate::lookup::{has_function, has_misfit};

@@ -4,7 +4,7 @@ ghost use Rattle.lb_syntax.specs.Tree.{procedure_of};
 ghost use Rattle.lb_check.specs.Order.{repeated};
 ghost use Rattle.lb_check.specs.Parts.{function_parts, parts};
 ghost use Rattle.lb_check.specs.Faults.{is_entry, count_faults, function_faults, faults};
-ghost use Rattle.lb_check.specs.Verdict.{Tells};
+ghost use Rattle.lb_check.specs.InternalVerdict.{Tells};
 
 use crate::fault::{CheckError, CheckFault};
 use crate::names::first_repeated;

@@ -5,7 +5,8 @@ ghost use Rattle.lb_syntax.specs.Rules.{function_names};
 ghost use Rattle.lb_check.specs.Order.{repeated};
 ghost use Rattle.lb_check.specs.Parts.{parts};
 ghost use Rattle.lb_check.specs.Faults.{where_true, faults};
-ghost use Rattle.lb_check.specs.Verdict.{Keeps, Tells, Settles};
+ghost use Rattle.lb_check.specs.Verdict.{Keeps};
+ghost use Rattle.lb_check.specs.InternalVerdict.{Tells, Settles};
 
 use crate::commands::check_commands;
 use crate::fault::{CheckError, CheckFault};

@@ -8,8 +8,9 @@ ghost use Rattle.lb_syntax.specs.Calls.{IsStackNeed};
 ghost use Rattle.lb_syntax.specs.Needs.{frame_need};
 ghost use Rattle.lb_graph.specs.Paths.{IsAcyclic};
 ghost use Rattle.lb_check.specs.Parts.{parts};
-ghost use Rattle.lb_check.specs.Places.{places_from, called, call_graph};
-ghost use Rattle.lb_check.specs.Verdict.{NoRecursion, FitsStack, Settles};
+ghost use Rattle.lb_check.specs.InternalPlaces.{places_from, called, call_graph};
+ghost use Rattle.lb_check.specs.Verdict.{NoRecursion, FitsStack};
+ghost use Rattle.lb_check.specs.InternalVerdict.{Settles};
 
 use crate::fault::{CheckError, CheckFault};
 use crate::needs::frame_need;

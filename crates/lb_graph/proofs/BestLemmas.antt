@@ -8,7 +8,7 @@ use Rattle.std.proofs.lemmas.List.{get_or_append_left}
 use Rattle.std.proofs.Math.ListN.{get_or-eq_default}
 use Rattle.std.proofs.Math.Seq.{get_or-append_seam}
 use Rattle.lb_graph.specs.Paths.{successors, IsPath, IsAcyclic, path_weight, IsGreatestWeight}
-use Rattle.lb_graph.specs.Best.{IsGreatestAmong, IsGreatest, IsStep, IsBestUpTo, IsBest}
+use Rattle.lb_graph.specs.InternalBest.{IsGreatestAmong, IsGreatest, IsStep, IsBestUpTo, IsBest}
 use Rattle.lb_graph.proofs.PathLemmas.{path-le-nodes}
 use Rattle.lb_graph.proofs.SearchLemmas.{one_in}
 

@@ -10,7 +10,7 @@ use Rattle.std.proofs.lemmas.Grind.{get_or_default_zero}
 use Rattle.std.proofs.Math.ListN.{get_or-eq_default}
 use Rattle.std.proofs.Math.Seq.{get_or-append_seam}
 use Rattle.lb_graph.specs.Paths.{successors, LeadsTo}
-use Rattle.lb_graph.specs.Search.{IsMarked, IsOrderOf, Adds, IsSearch}
+use Rattle.lb_graph.specs.InternalSearch.{IsMarked, IsOrderOf, Adds, IsSearch}
 use Rattle.lb_graph.proofs.PathLemmas.{edge_leads, then_edge, closed_holds}
 
 none_in : (v : ℕ) → Contains [] v → ⊥

@@ -1,3 +1,3 @@
-pub mod Best
+pub mod InternalBest
 pub mod Paths
-pub mod Search
+pub mod InternalSearch

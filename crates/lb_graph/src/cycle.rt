@@ -1,7 +1,7 @@
 // The first node on a cycle.
 ghost use Rattle.std.specs.Prelude.{ℕ, ◌≡◌, ◌<◌, ◌↔◌, [], ◌∷◌, length, IfOk, IfSome, IfNone, OnOk};
 ghost use Rattle.lb_graph.specs.Paths.{LeadsTo, IsOnCycle, IsAcyclic};
-ghost use Rattle.lb_graph.specs.Search.{IsMarked, IsOrderOf, Adds};
+ghost use Rattle.lb_graph.specs.InternalSearch.{IsMarked, IsOrderOf, Adds};
 
 use crate::graph::Graph;
 use std::alloc::{AllocError, Global};

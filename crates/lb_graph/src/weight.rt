@@ -1,7 +1,7 @@
 // The greatest weight of a path.
 ghost use Rattle.std.specs.Prelude.{ℕ, ◌≡◌, ◌+◌, ◌^◌, ◌<◌, ◌≤◌, length, slice_index, IfOk};
 ghost use Rattle.lb_graph.specs.Paths.{IsAcyclic, IsGreatestWeight};
-ghost use Rattle.lb_graph.specs.Best.{IsGreatestAmong, IsGreatest, IsStep, IsBest};
+ghost use Rattle.lb_graph.specs.InternalBest.{IsGreatestAmong, IsGreatest, IsStep, IsBest};
 
 use crate::graph::Graph;
 use std::alloc::{AllocError, Global};

@@ -9,14 +9,14 @@ use Rattle.lb_spelling.specs.declared.symbol.Symbol.{Symbol}
 use Rattle.lb_spelling.specs.declared.fault.TextKind.{TextKind}
 use Rattle.lb_spelling.specs.declared.fault.TextKind.TheVariants as kinds
 use Rattle.lb_spelling.specs.Tokens.{Token, Numeral, Named, Stands, Mode, Outside, Slash, Comment, gap, is_blank, is_hex, is_number, lexeme, begins_with, comment_start, IsLongest}
-use Rattle.lb_spelling.specs.Machine.{Stack, Between, InComment, Part, ended, Stuck, run, next, begins_one, begins_number, unexpected, ends}
-use Rattle.lb_spelling.specs.Parsing.{Takes, Faults}
+use Rattle.lb_spelling.specs.InternalMachine.{Stack, Between, InComment, Part, ended, Stuck, run, next, begins_one, begins_number, unexpected, ends}
+use Rattle.lb_spelling.specs.InternalParsing.{Takes, Faults}
 use Rattle.lb_spelling.proofs.Words.{chosen, false_from, number_decimal}
 use Rattle.lb_spelling.proofs.Lexing.{Head, head, empty_lexeme, begins_front}
 use Rattle.lb_spelling.proofs.Running.{run_step, run_fail, slash_step, comment_step, count_is}
 use Rattle.lb_spelling.proofs.Back.{behind_gap}
 use Rattle.lb_scan.specs.declared.stop.Stop.{Stop}
-use Rattle.lb_scan.specs.Scanning.{Skips, BeginsToken, lex_of, begins_with_digit, IsStuckIn, IsSpelled, IsTaken, ReadsNumber, ReadsWord}
+use Rattle.lb_scan.specs.InternalScanning.{Skips, BeginsToken, lex_of, begins_with_digit, IsStuckIn, IsSpelled, IsTaken, ReadsNumber, ReadsWord}
 use Rattle.lb_scan.proofs.Numbers.{none_fixed, begun_first}
 use Rattle.lb_scan.proofs.Marks.{no_word, no_slash}
 use Rattle.lb_scan.proofs.Stuck.{begun_short, digit_front, length_take}

@@ -2,10 +2,10 @@
 use Rattle.std.proofs.Common.{◌≡◌, ℕ, ◌≤◌, true, false, List, [], ◌∷◌, ◌++◌, length, refl, sym, ap, ◌∙◌, append_assoc, arith, inl, inr, ◌⊎◌, eqb}
 use Rattle.lb_syntax.specs.Brackets.{most_brackets}
 use Rattle.lb_spelling.specs.Tokens.{Outside, Comment, gap, is_blank}
-use Rattle.lb_spelling.specs.Machine.{Stack, run, Between, InComment, Part}
+use Rattle.lb_spelling.specs.InternalMachine.{Stack, run, Between, InComment, Part}
 use Rattle.lb_spelling.proofs.Back.{gap-append}
 use Rattle.lb_spelling.proofs.Running.{run_step, slash_step, comment_step}
-use Rattle.lb_scan.specs.Scanning.{Skips}
+use Rattle.lb_scan.specs.InternalScanning.{Skips}
 
 -- within a comment that stands in s, rest is left
 pub record InsideFrom (s rest : List ℕ) : Type 0 where

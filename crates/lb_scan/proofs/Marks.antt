@@ -14,13 +14,13 @@ use Rattle.lb_spelling.specs.declared.symbol.Symbol.{Symbol}
 use Rattle.lb_spelling.specs.declared.fault.TextKind.{TextKind}
 use Rattle.lb_spelling.specs.declared.fault.TextKind.TheVariants as kinds
 use Rattle.lb_spelling.specs.Tokens.{Numeral, Named, lexeme, same, value, is_empty, is_hex, is_number, is_digit_of, is_word, is_word_byte, hex_mark, joins, begins_with, comment_start, IsLongest}
-use Rattle.lb_spelling.specs.Machine.{Stack, Part, Go, Fail, ended, has_ended, Stuck, run, step, next, taken, begins, begins_one, begins_number, unexpected, kind_in}
+use Rattle.lb_spelling.specs.InternalMachine.{Stack, Part, Go, Fail, ended, has_ended, Stuck, run, step, next, taken, begins, begins_one, begins_number, unexpected, kind_in}
 use Rattle.lb_spelling.proofs.Words.{false_from, same_is, same_itself, hex_more, number_hex, number_decimal, word_parts, name_parts, digit_word, is_based}
 use Rattle.lb_spelling.proofs.Lexing.{number_is, any_number}
 use Rattle.lb_spelling.proofs.Wide.{value_hex, value_decimal}
 use Rattle.lb_spelling.proofs.Running.{run_step, run_fail, word_runs}
 use Rattle.lb_scan.specs.declared.stop.Stop.{Stop}
-use Rattle.lb_scan.specs.Scanning.{EndsRun, Digits, ReadsDigits, DigitsFault, NoDigitFault, ReadsNumber, NumberFault, IsStuckIn}
+use Rattle.lb_scan.specs.InternalScanning.{EndsRun, Digits, ReadsDigits, DigitsFault, NoDigitFault, ReadsNumber, NumberFault, IsStuckIn}
 use Rattle.lb_scan.proofs.Numbers.{none_fixed, begun_first}
 
 -- ---- the mark of a hexadecimal number

@@ -8,10 +8,10 @@ use Rattle.std.proofs.lemmas.Int.Digits.{digits_value_push}
 use Rattle.std.proofs.lemmas.List.Folds.{list_all-append}
 use Rattle.lb_spelling.specs.declared.fault.TextKind.TheVariants as kinds
 use Rattle.lb_spelling.specs.Tokens.{Token, spelling, fixed, is_word_byte, begins_with}
-use Rattle.lb_spelling.specs.Machine.{unexpected}
+use Rattle.lb_spelling.specs.InternalMachine.{unexpected}
 use Rattle.lb_spelling.proofs.Words.{false_from, digit_word, begins_with_is, head_or}
 use Rattle.lb_spelling.proofs.Lexing.{pick}
-use Rattle.lb_scan.specs.Scanning.{begins_with_digit, EndsRun, ReadsDigits, DigitsFault}
+use Rattle.lb_scan.specs.InternalScanning.{begins_with_digit, EndsRun, ReadsDigits, DigitsFault}
 
 -- ---- the loop
 

@@ -10,10 +10,10 @@ use Rattle.lb_syntax.specs.Names.{is_name}
 use Rattle.lb_spelling.specs.declared.symbol.Symbol.{Symbol}
 use Rattle.lb_spelling.specs.declared.fault.TextKind.TheVariants.{NameTooLong}
 use Rattle.lb_spelling.specs.Tokens.{Token, Named, lexeme, spelling, fixed, same, is_number, is_word, is_hex, is_word_byte, is_word_like, joins, begins_with, comment_start, hex_mark}
-use Rattle.lb_spelling.specs.Machine.{next, begins_one, begins_number, kind_in, unexpected}
+use Rattle.lb_spelling.specs.InternalMachine.{next, begins_one, begins_number, kind_in, unexpected}
 use Rattle.lb_spelling.proofs.Words.{false_from, same_is, hex_is, number_decimal, no_empty_number, name_parts}
 use Rattle.lb_spelling.proofs.Lexing.{name_is}
-use Rattle.lb_scan.specs.Scanning.{begins_with_digit, IsSpelled}
+use Rattle.lb_scan.specs.InternalScanning.{begins_with_digit, IsSpelled}
 
 -- ---- no number begins without a digit
 

@@ -9,11 +9,11 @@ use Rattle.lb_syntax.specs.Brackets.{most_brackets}
 use Rattle.lb_spelling.specs.declared.symbol.Symbol.{Symbol}
 use Rattle.lb_spelling.specs.declared.fault.TextKind.TheVariants as kinds
 use Rattle.lb_spelling.specs.Tokens.{Token, Named, lexeme, spelling, fixed, same, is_word, joins, begins_with, comment_start, IsLongest}
-use Rattle.lb_spelling.specs.Machine.{Stack, Part, Go, Fail, ended, Stuck, run, step, next, next_of, taken, begins_one, unexpected, kind_in, has_ended}
+use Rattle.lb_spelling.specs.InternalMachine.{Stack, Part, Go, Fail, ended, Stuck, run, step, next, next_of, taken, begins_one, unexpected, kind_in, has_ended}
 use Rattle.lb_spelling.proofs.Words.{false_from, same_is, word_parts, begins_with_is}
 use Rattle.lb_spelling.proofs.Lexing.{pick}
 use Rattle.lb_spelling.proofs.Running.{run_step, run_fail}
-use Rattle.lb_scan.specs.Scanning.{BeginsToken, begins_with_digit, IsSpelled, IsStuckIn}
+use Rattle.lb_scan.specs.InternalScanning.{BeginsToken, begins_with_digit, IsSpelled, IsStuckIn}
 use Rattle.lb_scan.proofs.Spellings.{take_more, drop_one, begins_is}
 
 -- the machine goes over the first len bytes of a spelling, which begin what x takes

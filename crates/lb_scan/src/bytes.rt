@@ -3,7 +3,7 @@ ghost use Rattle.std.specs.Prelude.{◌≡◌};
 ghost use Rattle.std.specs.Char.{is_digit};
 ghost use Rattle.lb_syntax.specs.Names.{is_name_start};
 ghost use Rattle.lb_spelling.specs.Tokens.{is_blank, is_word_byte, begins_with, same};
-ghost use Rattle.lb_spelling.specs.Machine.{unexpected};
+ghost use Rattle.lb_spelling.specs.InternalMachine.{unexpected};
 
 use lb_spelling::TextKind;
 

@@ -1,7 +1,7 @@
 // Blanks and comments.
 ghost use Rattle.std.specs.Prelude.{◌<◌, ◌≤◌, ◌≡◌, ◌∷◌, [], ⊤, MatchOption, length};
 ghost use Rattle.lb_spelling.specs.Tokens.{Outside, Comment};
-ghost use Rattle.lb_scan.specs.Scanning.{Skips, BeginsToken};
+ghost use Rattle.lb_scan.specs.InternalScanning.{Skips, BeginsToken};
 
 use crate::bytes::is_blank;
 

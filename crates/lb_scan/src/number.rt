@@ -1,7 +1,7 @@
 // Numbers.
 ghost use Rattle.std.specs.Prelude.{◌≡◌, ◌<◌, ◌≤◌, ◌+◌, ◌*◌, ◌^◌, ◌++◌, ◌⊎◌, true, false, IfOk, IfErr, MatchOption};
 ghost use Rattle.lb_spelling.specs.Tokens.{is_hex, hex_mark};
-ghost use Rattle.lb_scan.specs.Scanning.{begins_with_digit, ReadsDigits, DigitsFault, NoDigitFault, ReadsNumber, NumberFault};
+ghost use Rattle.lb_scan.specs.InternalScanning.{begins_with_digit, ReadsDigits, DigitsFault, NoDigitFault, ReadsNumber, NumberFault};
 
 use crate::bytes::{is_word_byte, unexpected};
 use crate::gap::first;

@@ -3,9 +3,9 @@ ghost use Rattle.std.specs.Prelude.{◌≡◌, ◌<◌, ◌&&◌, ◌||◌, [], 
 ghost use Rattle.std.specs.List.{list_all};
 ghost use Rattle.lb_syntax.specs.Names.{starts_name};
 ghost use Rattle.lb_spelling.specs.Tokens as tokens;
-ghost use Rattle.lb_spelling.specs.Machine as machine;
+ghost use Rattle.lb_spelling.specs.InternalMachine as machine;
 ghost use Rattle.lb_scan.specs.Words.{token_of_option};
-ghost use Rattle.lb_scan.specs.Scanning.{IsSpelled, begins_with_digit, BeginsToken, IsStuckIn};
+ghost use Rattle.lb_scan.specs.InternalScanning.{IsSpelled, begins_with_digit, BeginsToken, IsStuckIn};
 
 use crate::bytes::{begins_with, is_name_start, is_word_byte, unexpected};
 use crate::gap::first;

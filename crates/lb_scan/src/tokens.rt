@@ -1,11 +1,11 @@
 // One token.
 ghost use Rattle.std.specs.Prelude.{◌≡◌, ◌≤◌, ◌<◌, ◌||◌, ◌↔◌, ◌∷◌, [], true, false, None, IfOk, IfErr, IsTrue, MatchOption, length, take};
 ghost use Rattle.lb_spelling.specs.Tokens.{Outside, gap, begins_with, comment_start, lexeme};
-ghost use Rattle.lb_spelling.specs.Machine.{Stack, ends, begins_one, next_of};
-ghost use Rattle.lb_spelling.specs.Parsing.{Takes, Faults};
+ghost use Rattle.lb_spelling.specs.InternalMachine.{Stack, ends, begins_one, next_of};
+ghost use Rattle.lb_spelling.specs.InternalParsing.{Takes, Faults};
 ghost use Rattle.lb_syntax.specs.Brackets.{most_brackets, open_after};
 ghost use Rattle.lb_scan.specs.Words.{token_of};
-ghost use Rattle.lb_scan.specs.Scanning.{BeginsToken, begins_with_digit, IsStuckIn, IsTaken, ReadsWord};
+ghost use Rattle.lb_scan.specs.InternalScanning.{BeginsToken, begins_with_digit, IsStuckIn, IsTaken, ReadsWord};
 
 use crate::bytes::{is_digit, unexpected};
 use crate::gap::{first, skip};

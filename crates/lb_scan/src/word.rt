@@ -2,7 +2,7 @@
 ghost use Rattle.std.specs.Prelude.{◌≡◌, ◌&&◌, map, is_some};
 ghost use Rattle.std.specs.List.{find, list_any};
 ghost use Rattle.lb_spelling.specs.Tokens as tokens;
-ghost use Rattle.lb_spelling.specs.Machine.{next};
+ghost use Rattle.lb_spelling.specs.InternalMachine.{next};
 ghost use Rattle.lb_scan.specs.Words.{token_of, token_of_option};
 
 use crate::bytes::{begins_with, same};

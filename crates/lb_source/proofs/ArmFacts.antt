@@ -13,7 +13,7 @@ use Rattle.lb_source.specs.declared.ends.Reason.{Reason}
 use Rattle.lb_source.specs.declared.ends.SourceEnd.{SourceEnd}
 use Rattle.lb_source.specs.Run.{State, Outcome, Goes, Stops, then_do, with_value, at_zero, spend, value_in, values_in, set, set_all, allocated, released, Callable, callee, entered, returned, enter, calls, run}
 use Rattle.lb_source.specs.Source.{callable}
-use Rattle.lb_source.specs.Machine.{state_of, outcome_of, variables_of, memory_of, Follows, FollowsEntry}
+use Rattle.lb_source.specs.InternalMachine.{state_of, outcome_of, variables_of, memory_of, Follows, FollowsEntry}
 use Rattle.lb_source.specs.declared.machine.Machine.{Machine}
 use Rattle.lb_source.specs.declared.machine.Flow.{Flow}
 use Rattle.lb_source.specs.declared.machine.Flow.TheVariants.{On, End}

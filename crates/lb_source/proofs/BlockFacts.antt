@@ -2,7 +2,7 @@
 use Rattle.std.proofs.Common.{ℕ, ◌≤◌, List, [], ◌∷◌, ◌++◌, drop, length, arith}
 use Rattle.lb_syntax.specs.Tree.{Command, Skips, Sets, Unsets, Stores, Allocates, Chooses, Repeats, Calls, Interacts, Ends, Then}
 use Rattle.lb_syntax.specs.Needs.{sites}
-use Rattle.lb_source.specs.Machine.{BlockFits, BlocksFit}
+use Rattle.lb_source.specs.InternalMachine.{BlockFits, BlocksFit}
 
 -- blocks of these sizes at these offsets end by a place
 abbrev pub BlocksIn : ℕ → List ℕ → List ℕ → Type 0

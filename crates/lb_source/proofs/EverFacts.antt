@@ -6,7 +6,7 @@ use Rattle.lb_source.specs.declared.ends.SourceEnd.{SourceEnd}
 use Rattle.lb_source.specs.declared.ends.SourceEnd.TheVariants.{Spent}
 use Rattle.lb_source.specs.Run.{Outcome, Callable, callee, run}
 use Rattle.lb_source.specs.Source.{call_of, to_end, for_ever}
-use Rattle.lb_source.specs.Machine.{state_of, FollowsCall, FollowsEver, FollowsWhole}
+use Rattle.lb_source.specs.InternalMachine.{state_of, FollowsCall, FollowsEver, FollowsWhole}
 use Rattle.lb_source.specs.declared.machine.Machine.{Machine}
 use Rattle.lb_source.specs.declared.machine.Flow.TheVariants.{On, End}
 use Rattle.lb_source.proofs.Bounds.{enter_none}

@@ -7,7 +7,7 @@ use Rattle.lb_syntax.specs.declared.tree.Function.{Function}
 use Rattle.lb_syntax.specs.declared.layout.FrameLayout.{FrameLayout}
 use Rattle.lb_source.specs.Run.{Callable, callee}
 use Rattle.lb_source.specs.Source.{callables}
-use Rattle.lb_source.specs.Machine.{FramesFit, deepest}
+use Rattle.lb_source.specs.InternalMachine.{FramesFit, deepest}
 
 -- what is found among the functions and frames that are left is found among all
 pub record Searching (p : List Callable) (fs : List Function) (name : Text) (rest : List Function) (frames : List FrameLayout) : Type 0 where

@@ -7,7 +7,7 @@ use Rattle.lb_syntax.specs.Tree.{Procedure}
 use Rattle.lb_syntax.specs.Needs.{sites, frame_need}
 use Rattle.lb_syntax.specs.Layouts.{IsFrameOf, AreFramesOf}
 use Rattle.lb_syntax.specs.declared.layout.FrameLayout.{FrameLayout}
-use Rattle.lb_source.specs.Machine.{FrameFits, FramesFit}
+use Rattle.lb_source.specs.InternalMachine.{FrameFits, FramesFit}
 use Rattle.lb_source.proofs.BlockFacts.{BlocksIn, blocks_of}
 
 -- by each place

@@ -7,7 +7,7 @@ use Rattle.lb_syntax.specs.Names.{Text}
 use Rattle.lb_syntax.proofs.DistinctLemmas.{bytes_eq-same, bytes_eq-refl}
 use Rattle.lb_source.specs.declared.variables.Entry.{Entry}
 use Rattle.lb_source.specs.Maps.{put}
-use Rattle.lb_source.specs.Machine.{without, variables_of}
+use Rattle.lb_source.specs.InternalMachine.{without, variables_of}
 
 pub same_everywhere : {A B : Type 0} (f g : A → B) → ((x : A) → f x ≡ g x) → f ≡ g
 same_everywhere f g h = λ i x. h x i

@@ -8,7 +8,7 @@ use Rattle.lb_source.specs.declared.memory.Cell.TheVariants.{Absent}
 use Rattle.lb_source.specs.Maps.{Memory, with_range, nothing_owned}
 use Rattle.lb_source.specs.declared.ends.Reason.{Reason}
 use Rattle.lb_source.specs.Run.{if_owned, store}
-use Rattle.lb_source.specs.Machine.{cell_of, memory_of}
+use Rattle.lb_source.specs.InternalMachine.{cell_of, memory_of}
 use Rattle.lb_source.proofs.MapLemmas.{same_everywhere}
 
 -- a test of one place

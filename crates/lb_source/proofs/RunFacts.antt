@@ -9,7 +9,7 @@ use Rattle.lb_source.specs.declared.ends.Reason.{Reason}
 use Rattle.lb_source.specs.declared.ends.SourceEnd.{SourceEnd}
 use Rattle.lb_source.specs.declared.ends.SourceEnd.TheVariants.{Spent, Undefined}
 use Rattle.lb_source.specs.Run.{State, Outcome, Goes, Stops, then_do, with_value, at_zero, spend, value_in, Callable, run, turns}
-use Rattle.lb_source.specs.Machine.{state_of, Follows, FollowsTurns}
+use Rattle.lb_source.specs.InternalMachine.{state_of, Follows, FollowsTurns}
 use Rattle.lb_source.specs.declared.machine.Machine.{Machine}
 use Rattle.lb_source.specs.declared.machine.Flow.TheVariants.{On, End}
 

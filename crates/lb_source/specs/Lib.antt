@@ -5,4 +5,4 @@ pub mod Source
 pub mod Defined
 pub mod Stack
 pub mod Laws
-pub mod Machine
+pub mod InternalMachine

@@ -4,7 +4,7 @@ ghost use Rattle.lb_syntax.specs.Tree.{term_of, Variable};
 ghost use Rattle.lb_source.specs.Run.{Goes, Stops, access, address_fault, returned, set_all, store, value_in, values_in, with_value, set, unless, ask};
 ghost use Rattle.lb_source.specs.Value.{byte_count, values};
 ghost use Rattle.lb_source.specs.Source.{start};
-ghost use Rattle.lb_source.specs.Machine.{memory_of, outcome_of, state_of, variables_of};
+ghost use Rattle.lb_source.specs.InternalMachine.{memory_of, outcome_of, state_of, variables_of};
 
 use crate::ends::{Reason, SourceEnd};
 use crate::memory::Bytes;

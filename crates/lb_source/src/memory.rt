@@ -3,7 +3,7 @@ ghost use Rattle.std.specs.Prelude.{◌≡◌, ◌+◌, ◌<◌, ◌≤◌, ◌^
 ghost use Rattle.lb_source.specs.Maps.{with_range, nothing_owned};
 ghost use Rattle.lb_source.specs.Value.{load, byte_count};
 ghost use Rattle.lb_source.specs.Run.{store};
-ghost use Rattle.lb_source.specs.Machine.{memory_of, cell_of, stored};
+ghost use Rattle.lb_source.specs.InternalMachine.{memory_of, cell_of, stored};
 
 use crate::ends::Reason;
 use lb_memory::STACK_TOP;

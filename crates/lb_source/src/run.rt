@@ -7,7 +7,7 @@ ghost use Rattle.lb_syntax.specs.declared.tree.Cmd.{size-Cmd};
 ghost use Rattle.lb_syntax.specs.declared.tree.Block.{size-Block};
 ghost use Rattle.lb_source.specs.Run.{callee, entered};
 ghost use Rattle.lb_source.specs.Source.{callable, callables};
-ghost use Rattle.lb_source.specs.Machine.{variables_of, state_of, Follows, FollowsTurns, FollowsCall, FollowsEntry, BlockFits, BlocksFit, FrameFits, FramesFit, Found, deepest};
+ghost use Rattle.lb_source.specs.InternalMachine.{variables_of, state_of, Follows, FollowsTurns, FollowsCall, FollowsEntry, BlockFits, BlocksFit, FrameFits, FramesFit, Found, deepest};
 
 use crate::ends::SourceEnd;
 use crate::machine::{

@@ -2,7 +2,7 @@
 ghost use Rattle.std.specs.Prelude.{◌≡◌, map, IfOk};
 ghost use Rattle.lb_syntax.specs.Tree.{term_of};
 ghost use Rattle.lb_source.specs.Value.{operate, value, values};
-ghost use Rattle.lb_source.specs.Machine.{variables_of, memory_of};
+ghost use Rattle.lb_source.specs.InternalMachine.{variables_of, memory_of};
 
 use crate::ends::Reason;
 use crate::memory::Bytes;

@@ -1,7 +1,7 @@
 // The variables of a function that runs.
 ghost use Rattle.std.specs.Prelude.{◌≡◌, OnOk, Option, Some, None};
 ghost use Rattle.lb_source.specs.Maps.{put};
-ghost use Rattle.lb_source.specs.Machine.{variables_of, without};
+ghost use Rattle.lb_source.specs.InternalMachine.{variables_of, without};
 
 use lb_syntax::Name;
 use std::alloc::{AllocError, Global};

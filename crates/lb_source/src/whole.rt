@@ -4,7 +4,7 @@ ghost use Rattle.lb_memory.specs.declared.TheConstants.{STACK_TOP};
 ghost use Rattle.lb_syntax.specs.Tree.{program_of};
 ghost use Rattle.lb_syntax.specs.Layouts.{IsValidLayout};
 ghost use Rattle.lb_source.specs.Source.{callables, src};
-ghost use Rattle.lb_source.specs.Machine.{FollowsEver, FollowsWhole, FramesFit};
+ghost use Rattle.lb_source.specs.InternalMachine.{FollowsEver, FollowsWhole, FramesFit};
 
 use crate::ends::{SourceEnd, SourceRun};
 use crate::machine::{Flow, Machine, start};

@@ -11,7 +11,7 @@ use Rattle.lb_syntax.specs.Tree.{Number, Ends}
 use Rattle.lb_spelling.specs.declared.symbol.Symbol.{Symbol}
 use Rattle.lb_spelling.specs.declared.symbol.Symbol.TheVariants as symbols
 use Rattle.lb_spelling.specs.Tokens.{Token, Numeral, Named, As, OpenParen, CloseParen, OpenBrace, CloseBrace, Comma, Semicolon, Becomes, Sign, Stands, IsLongest, is_blank, is_word_byte, hex_mark, is_hex, is_digit_of, is_numeral, is_number, is_word, value, spelling, fixed, is_word_like, lexeme, joins, begins_with, same, comment_start}
-use Rattle.lb_spelling.specs.Machine.{Stack, next, begins, begins_one, begins_number, Lex, Between, InComment, Part}
+use Rattle.lb_spelling.specs.InternalMachine.{Stack, next, begins, begins_one, begins_number, Lex, Between, InComment, Part}
 use Rattle.lb_spelling.proofs.Words.{false_from, same_is, begins_with_is, begins_itself, word_parts, word_from}
 use Rattle.lb_spelling.proofs.Lexing.{any_number, any_name, number_is, name_is, Found, found, table_all}
 use Rattle.lb_spelling.proofs.Back.{Means, Spells, whole, Function, targets, value as value_at, ends, applied}

@@ -10,7 +10,7 @@ use Rattle.lb_spelling.specs.declared.symbol.Symbol.{Symbol}
 use Rattle.lb_spelling.specs.declared.symbol.Symbol.TheVariants as symbols
 use Rattle.lb_spelling.specs.Tokens.{Token, Numeral, Named, Fn, If, Else, While, Skip, Unset, StackAlloc, As, Load, Store, Device, OpenParen, CloseParen, OpenBrace, CloseBrace, Comma, Semicolon, Becomes, Arrow, Sign, Stands, Mode, Outside, Slash, Comment, gap, is_blank}
 use Rattle.lb_spelling.specs.Grammar.{Standing, ◌then◌, TermAt, MoreAt, NameAt, NamesAt, ArgumentsAt, CommandsAt, BlockAt, ElseAt, ResultsAt, FunctionsAt}
-use Rattle.lb_spelling.specs.Machine.{Stack, next, next_functions, next_names, next_more_names, next_results, next_block, next_commands, next_after_if, next_after_name, next_more_targets, next_source, next_after_source, next_callee, next_arguments, next_more_arguments, next_expr, next_sign, next_name, next_number, next_open_paren, next_close_paren, next_comma, next_semicolon, next_as}
+use Rattle.lb_spelling.specs.InternalMachine.{Stack, next, next_functions, next_names, next_more_names, next_results, next_block, next_commands, next_after_if, next_after_name, next_more_targets, next_source, next_after_source, next_callee, next_arguments, next_more_arguments, next_expr, next_sign, next_name, next_number, next_open_paren, next_close_paren, next_comma, next_semicolon, next_as}
 use Rattle.lb_spelling.proofs.Words.{chosen}
 
 -- ---- what stands for a symbol

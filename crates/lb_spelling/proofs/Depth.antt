@@ -11,7 +11,7 @@ use Rattle.lb_spelling.specs.declared.fault.TextKind.{TextKind}
 use Rattle.lb_spelling.specs.declared.fault.TextKind.TheVariants.{TooDeep}
 use Rattle.lb_spelling.specs.Tokens.{Token, Numeral, Named, Mode, Outside, Slash, Comment, mode_after, hex_mark, is_blank, is_word_byte, is_number, is_word, spelling, fixed, joins, begins_with, same, comment_start}
 use Rattle.lb_spelling.specs.Places.{open_in}
-use Rattle.lb_spelling.specs.Machine.{Stack, next, taken, begins, begins_one, begins_number, Lex, Between, InComment, Part, Go, Fail, step, start, between, longer, finished, kind_in, unexpected}
+use Rattle.lb_spelling.specs.InternalMachine.{Stack, next, taken, begins, begins_one, begins_number, Lex, Between, InComment, Part, Go, Fail, step, start, between, longer, finished, kind_in, unexpected}
 use Rattle.lb_spelling.proofs.Words.{chosen, false_from, same_is, begins_with_is, tail, WordByte, word_byte_is, number_bytes, word_parts}
 use Rattle.lb_spelling.proofs.Lexing.{pick, no_bracket}
 use Rattle.lb_spelling.proofs.Ahead.{begins_with_has, Fine}

@@ -11,7 +11,7 @@ use Rattle.lb_spelling.specs.declared.fault.TextKind.{TextKind}
 use Rattle.lb_spelling.specs.declared.fault.TextKind.TheVariants.{BadByte, TooDeep, NumberTooWide, NameTooLong, Unexpected}
 use Rattle.lb_spelling.specs.Tokens.{Token, Numeral, Named, is_blank, is_word_byte, is_digit_of, is_number, is_word, is_word_like, value, spelling, fixed, joins, begins_with, same, comment_start}
 use Rattle.lb_spelling.specs.Places.{is_plain}
-use Rattle.lb_spelling.specs.Machine.{Stack, next, taken, begins, begins_one, begins_number, Lex, Between, InComment, Part, Go, Fail, step, start, between, longer, finished, kind_in, unexpected}
+use Rattle.lb_spelling.specs.InternalMachine.{Stack, next, taken, begins, begins_one, begins_number, Lex, Between, InComment, Part, Go, Fail, step, start, between, longer, finished, kind_in, unexpected}
 use Rattle.lb_spelling.proofs.Words.{chosen, false_from, begins_with_is, head_or, tail, word_byte_is, number_bytes, no_empty_number, word_parts}
 use Rattle.lb_spelling.proofs.Lexing.{pick, beq-is}
 use Rattle.lb_spelling.proofs.Ahead.{begins_with_has, Fine}

@@ -11,7 +11,7 @@ use Rattle.lb_syntax.specs.Names.{Text, is_name, is_reserved, reserved_words}
 use Rattle.lb_syntax.proofs.DistinctLemmas.{bytes_eq-same}
 use Rattle.lb_spelling.specs.declared.symbol.Symbol.{Symbol}
 use Rattle.lb_spelling.specs.declared.symbol.Symbol.TheVariants as symbols
-use Rattle.lb_spelling.specs.Machine.{next, begins_one, is_open, is_close}
+use Rattle.lb_spelling.specs.InternalMachine.{next, begins_one, is_open, is_close}
 use Rattle.lb_spelling.specs.Tokens.{Token, Numeral, Named, is_word_byte, lexeme, joins, begins_with, spelling, fixed, value, is_numeral, is_hex, is_number, is_word, same, comment_start, name_of, or_else}
 use Rattle.lb_spelling.proofs.Words.{chosen, false_from, begins_with-append, same_is, one_more, head_or, word_byte_is, number_front, number_bytes, number_below, word_parts, word_front, name_from, name_word, name_bytes, no_number}
 

@@ -9,7 +9,7 @@ use Rattle.lb_spelling.specs.declared.fault.TextFault.{TextFault}
 use Rattle.lb_spelling.specs.Tokens.{Mode, Outside, gap, mode_after}
 use Rattle.lb_spelling.specs.Grammar.{IsText}
 use Rattle.lb_spelling.specs.Places.{Viable, IsShallow, within, open_in, IsPlace, IsAccepted, IsRefused, last_run, IsKind, IsFault}
-use Rattle.lb_spelling.specs.Machine.{Stack, Lex, Between, Step, Go, Fail, Whole, ended, Stuck, run, step, may_end}
+use Rattle.lb_spelling.specs.InternalMachine.{Stack, Lex, Between, Step, Go, Fail, Whole, ended, Stuck, run, step, may_end}
 use Rattle.lb_spelling.proofs.Running.{run_step, run_fail, gap_ends}
 use Rattle.lb_spelling.proofs.StepBack.{Completes, step_back, end_completes}
 use Rattle.lb_spelling.proofs.Ahead.{Fine, completable}

@@ -6,7 +6,7 @@ use Rattle.lb_syntax.specs.Brackets.{open_after}
 use Rattle.lb_spelling.specs.declared.symbol.Symbol.{Symbol}
 use Rattle.lb_spelling.specs.declared.fault.TextKind.{TextKind}
 use Rattle.lb_spelling.specs.Tokens.{Token, Stands, Mode, Outside, Slash, Comment, gap, IsLongest, is_blank, is_word_byte, lexeme, joins, begins_with, same, comment_start}
-use Rattle.lb_spelling.specs.Machine.{Stack, next, taken, begins, begins_one, Lex, Between, InComment, Part, Step, Go, Fail, Whole, ended, Stuck, run, step, after, has_ended, opened, ends}
+use Rattle.lb_spelling.specs.InternalMachine.{Stack, next, taken, begins, begins_one, Lex, Between, InComment, Part, Step, Go, Fail, Whole, ended, Stuck, run, step, after, has_ended, opened, ends}
 use Rattle.lb_spelling.proofs.Words.{chosen, not_blank_above}
 use Rattle.lb_spelling.proofs.Lexing.{empty_lexeme, begins_front, joins_front, no_comment_front, Head, head}
 pub use Rattle.lb_spelling.proofs.Words.{false_from}

@@ -6,7 +6,7 @@ use Rattle.lb_spelling.specs.declared.symbol.Symbol.{Symbol}
 use Rattle.lb_spelling.specs.declared.symbol.Symbol.TheVariants as symbols
 use Rattle.lb_spelling.specs.declared.fault.TextKind.TheVariants.{TooDeep}
 use Rattle.lb_spelling.specs.Tokens.{Token, Outside, Comment, gap, IsLongest, is_blank, lexeme, joins, same, comment_start}
-use Rattle.lb_spelling.specs.Machine.{Stack, next, next_of, push, taken, begins, Lex, Between, InComment, Part, Go, Fail, step, start, between, longer, finished, may_be_none, ends, has_ended, may_end, kind_in, unexpected}
+use Rattle.lb_spelling.specs.InternalMachine.{Stack, next, next_of, push, taken, begins, Lex, Between, InComment, Part, Go, Fail, step, start, between, longer, finished, may_be_none, ends, has_ended, may_end, kind_in, unexpected}
 use Rattle.lb_spelling.proofs.Words.{chosen, same_is}
 use Rattle.lb_spelling.proofs.Back.{Spells, whole, Spells-gap}
 

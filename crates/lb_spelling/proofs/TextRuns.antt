@@ -7,7 +7,7 @@ use Rattle.lb_spelling.specs.declared.symbol.Symbol.{Symbol}
 use Rattle.lb_spelling.specs.declared.symbol.Symbol.TheVariants as symbols
 use Rattle.lb_spelling.specs.Tokens.{Token, Numeral, Fn, Stands, Outside, lexeme}
 use Rattle.lb_spelling.specs.Grammar.{IsText}
-use Rattle.lb_spelling.specs.Machine.{Stack, next, may_be_none, Between, Whole, run, is_open, is_close, opened}
+use Rattle.lb_spelling.specs.InternalMachine.{Stack, next, may_be_none, Between, Whole, run, is_open, is_close, opened}
 use Rattle.lb_spelling.proofs.Lexing.{empty_lexeme}
 use Rattle.lb_spelling.proofs.Running.{token_runs, gap_ends}
 use Rattle.lb_spelling.proofs.Back.{Spells, first}

@@ -5,7 +5,7 @@ use Rattle.lb_spelling.specs.declared.fault.TextKind.{TextKind}
 use Rattle.lb_spelling.specs.declared.fault.TextFault.{TextFault}
 use Rattle.lb_spelling.specs.Places.{IsFirst, IsKind, IsPlace, Suits, kinds}
 use Rattle.lb_spelling.specs.Laws.{OneTree, HasProgram, HasFault, EveryText, NotBoth, OneFault}
-use Rattle.lb_spelling.specs.Machine.{Between, Outcome, Whole, Stuck, run}
+use Rattle.lb_spelling.specs.InternalMachine.{Between, Outcome, Whole, Stuck, run}
 use Rattle.lb_spelling.proofs.Place.{whole_stack, fault_is, whole_accepted}
 use Rattle.lb_spelling.proofs.Same.{text_same}
 

@@ -8,7 +8,7 @@ use Rattle.std.proofs.lemmas.Bool.{true≢false, false≢true, and_parts, and_fr
 use Rattle.std.proofs.lemmas.List.Folds.{list_all-append}
 use Rattle.lb_spelling.specs.declared.symbol.Symbol.{Symbol}
 use Rattle.lb_spelling.specs.Tokens.{Token, Numeral, Named, is_word_byte, hex_mark, is_hex, is_digit_of, value, is_empty, is_number, is_word, spelling, fixed, begins_with, same, comment_start}
-use Rattle.lb_spelling.specs.Machine.{Stack, next, begins, begins_one, begins_number}
+use Rattle.lb_spelling.specs.InternalMachine.{Stack, next, begins, begins_one, begins_number}
 use Rattle.lb_spelling.proofs.Words.{false_from, begins_with_is, head_or, word_byte_is, digit_word, is_based, number_hex, number_decimal, hex_is, based_all, number_bytes, word_parts, no_number}
 use Rattle.lb_spelling.proofs.Lexing.{pick}
 

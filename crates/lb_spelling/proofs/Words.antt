@@ -9,7 +9,7 @@ use Rattle.std.proofs.lemmas.List.{length-append}
 use Rattle.std.proofs.lemmas.List.Folds.{list_all-append}
 use Rattle.lb_syntax.specs.Names.{is_name, is_name_byte, is_name_start, starts_name, is_reserved}
 use Rattle.lb_spelling.specs.Tokens.{is_blank, is_word_byte, begins_with, same, hex_mark, is_hex, radix, digits, is_digit_of, value, is_empty, is_numeral, is_number, is_word}
-use Rattle.lb_spelling.specs.Machine.{begins_number}
+use Rattle.lb_spelling.specs.InternalMachine.{begins_number}
 
 -- ---- choices and beginnings
 

@@ -1,6 +1,6 @@
 pub mod Tokens
 pub mod Grammar
 pub mod Places
-pub mod Machine
-pub mod Parsing
+pub mod InternalMachine
+pub mod InternalParsing
 pub mod Laws

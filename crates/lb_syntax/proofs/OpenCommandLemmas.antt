@@ -9,7 +9,7 @@ use Rattle.lb_syntax.specs.Tree.{Command, Skips, Sets, Unsets, Stores, Allocates
 use Rattle.lb_syntax.specs.WellFormed.{IsTerm, IsCommand, IsBlock, IsProcedure}
 use Rattle.lb_syntax.specs.Printing.{width_text, action_text, term_text, listed, indent, line, else_text, command_text, results_text, procedure_text, program_text}
 use Rattle.lb_syntax.specs.Brackets.{most_open, brackets}
-use Rattle.lb_syntax.specs.Nesting.{term_nest, command_nest, procedure_nest, program_nest}
+use Rattle.lb_syntax.specs.InternalNesting.{term_nest, command_nest, procedure_nest, program_nest}
 use Rattle.lb_syntax.proofs.OpenLemmas.{Goes, Nests, is_plain, same_most, goes_on, plain_goes, plain_nests, plain_on, on_plain, nests_on, same_nest, same_text, opens, closes, round}
 use Rattle.lb_syntax.proofs.OpenTermLemmas.{decimal_plain, name_plain, name_nests, indent_plain, width_plain, action_plain, term_nests, names_plain, call_nests}
 

@@ -19,7 +19,7 @@ use Rattle.lb_syntax.specs.declared.tree.Action.TheVariants.{Read, Write}
 use Rattle.lb_syntax.specs.Tree.{Term, Number, Variable, Loaded, Operation}
 use Rattle.lb_syntax.specs.WellFormed.{IsWord, IsTerm}
 use Rattle.lb_syntax.specs.Printing.{op_text, width_text, action_text, term_text, listed, targets_text, call_text, indent}
-use Rattle.lb_syntax.specs.Nesting.{term_nest, terms_nest}
+use Rattle.lb_syntax.specs.InternalNesting.{term_nest, terms_nest}
 use Rattle.lb_syntax.proofs.OpenLemmas.{Nests, is_plain, is_plain_byte, plain_nests, plain_on, nests_on, same_nest, same_text, round}
 
 -- names, numbers and signs

@@ -9,4 +9,4 @@ pub mod Layouts
 pub mod Printing
 pub mod Brackets
 pub mod Parts
-pub mod Nesting
+pub mod InternalNesting

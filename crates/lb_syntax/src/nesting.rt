@@ -5,7 +5,7 @@ ghost use Rattle.lb_syntax.specs.Tree.{term_of, command_of, block_of, procedure_
 ghost use Rattle.lb_syntax.specs.WellFormed.{IsWord, IsTerm, IsCommand, IsBlock, IsProcedure};
 ghost use Rattle.lb_syntax.specs.Needs.{nodes};
 ghost use Rattle.lb_syntax.specs.Parts.{command_parts, procedure_parts, program_parts};
-ghost use Rattle.lb_syntax.specs.Nesting.{term_nest, terms_nest, command_nest, procedure_nest, program_nest};
+ghost use Rattle.lb_syntax.specs.InternalNesting.{term_nest, terms_nest, command_nest, procedure_nest, program_nest};
 ghost use Rattle.lb_syntax.specs.Brackets.{brackets};
 
 use crate::name::Name;

@@ -10,7 +10,8 @@ use Rattle.lb_system.specs.declared.fault.Fault.{Fault}
 use Rattle.lb_system.specs.declared.fault.Fault.TheVariants as fault
 use Rattle.lb_system.specs.Request.{Job}
 use Rattle.lb_system.specs.Faults.{IsLimit}
-use Rattle.lb_system.specs.Answers.{IsRuleFault, IsProblem, IsCause, ChecksRules}
+use Rattle.lb_system.specs.Answers.{IsProblem, IsCause, ChecksRules}
+use Rattle.lb_system.specs.InternalAnswers.{IsRuleFault}
 
 -- a problem with a program is the cause on its text
 pub problem_cause : (job : Job) (p : List Procedure) (text : Text) (f : Fault) → IsAccepted p text → IsProblem job p f → IsCause job text f

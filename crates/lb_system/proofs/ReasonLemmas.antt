@@ -7,7 +7,8 @@ use Rattle.lb_system.specs.declared.fault.Fault.{Fault}
 use Rattle.lb_system.specs.declared.fault.Fault.TheVariants as fault
 use Rattle.lb_system.specs.Request.{AreInForm}
 use Rattle.lb_system.specs.Faults.{TakesMemory}
-use Rattle.lb_system.specs.Answers.{Known, IsReason, IsTold, HasCause, IsOfText, ShowsForm, most_input}
+use Rattle.lb_system.specs.Answers.{Known, IsReason, HasCause, IsOfText, ShowsForm, most_input}
+use Rattle.lb_system.specs.InternalAnswers.{IsTold}
 
 cause_reads : {words : List Text} {old new : Known} (f : Fault) → HasCause words old new f → ReadsUpTo old new most_input
 cause_reads f h = let t : Text = h.1 in (t, h.2.read.0, h.2.short)

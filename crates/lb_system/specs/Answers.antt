@@ -23,7 +23,7 @@ use Rattle.lb_system.specs.declared.fault.Fault.{Fault}
 use Rattle.lb_system.specs.declared.fault.Fault.TheVariants as fault
 use Rattle.lb_system.specs.Request.{Job, Checks, Prints, Runs, IsRequest, AreInForm, AskToRun}
 use Rattle.lb_system.specs.Report.{check_report, run_report}
-use Rattle.lb_system.specs.Faults.{IsLimit, TakesMemory, fault_line}
+use Rattle.lb_system.specs.Faults.{IsLimit, fault_line}
 
 -- bytes that are known or not
 abbrev pub Known : Type 0
@@ -111,16 +111,6 @@ IsReason words old new before now fault.Memory = ReadsUpTo old new most_input
 IsReason words old new before now fault.Write = ⊥
 IsReason words old new before now f = HasCause words old new f
 
--- the fault that is answered: the one that was found, or want of memory for its line
-abbrev pub IsTold : Fault → Option Fault → Type 0
-IsTold found told = (told ≡ Some found) ⊎ (TakesMemory found × (told ≡ Some fault.Memory))
-
--- the fault that a broken rule is
-abbrev pub IsRuleFault : CheckFault → Fault → Type 0
-IsRuleFault f (fault.Check g) = (g ≡ f) × (¬ (IsLimit f))
-IsRuleFault f (fault.Limit g) = (g ≡ f) × IsLimit f
-IsRuleFault f _ = ⊥
-
 -- no code and no frames
 abbrev pub AreNone : List SmallInstr → Layout → Type 0
 AreNone code layout = (code ≡ []) × (layout.frames ≡ [])
@@ -155,10 +145,6 @@ abbrev pub IsMade : Job → List Procedure → List SmallInstr → Layout → Te
 IsMade Checks p code layout report = IsCheckReport p report × AreNone code layout
 IsMade Prints p code layout report = (report ≡ program_text p) × AreNone code layout
 IsMade (Runs n replies) p code layout report = IsBuilt p code layout × (report ≡ run_report code replies n)
-
--- what the job makes of the program whose text this is
-abbrev pub IsAnswer : Job → Text → List SmallInstr → Layout → Text → Type 0
-IsAnswer job text code layout report = (p : List Procedure) × IsAccepted p text × IsMade job p code layout report
 
 -- the report of what was asked for on what was read
 pub record IsReport (words : List Text) (old new : Known) (code : List SmallInstr) (layout : Layout) (report : Text) : Type 0 where

@@ -5,7 +5,8 @@ ghost use Rattle.lb_check.specs.Parts.{parts};
 ghost use Rattle.lb_syntax.specs.Rules.{KeepsRules};
 ghost use Rattle.lb_system.specs.Request.{Job, Checks, Prints, Runs, job_of};
 ghost use Rattle.lb_system.specs.Faults.{IsLimit};
-ghost use Rattle.lb_system.specs.Answers.{IsAnswer, IsMade, IsBuilt, IsCause, IsProblem, IsRuleFault, ChecksRules, most_input};
+ghost use Rattle.lb_system.specs.Answers.{IsMade, IsBuilt, IsCause, IsProblem, ChecksRules, most_input};
+ghost use Rattle.lb_system.specs.InternalAnswers.{IsAnswer, IsRuleFault};
 
 use crate::fault::Fault;
 use crate::report::{check_report, run_report};

@@ -4,7 +4,8 @@ ghost use Rattle.lb_ports.specs.Bytes.{ReadsUpTo, ReadsMoreThan};
 ghost use Rattle.lb_system.specs.Request.{AreInForm, AskToRun};
 ghost use Rattle.lb_system.specs.Faults.{fault_line, status_of};
 ghost use Rattle.lb_system.specs.Headline.{RunsWhatWasRead};
-ghost use Rattle.lb_system.specs.Answers.{AreNone, HasCause, HasReport, HasRun, IsOfText, IsReason, IsReport, IsTold, ReadFails, ShowsForm, WritesLine, WritesReport, most_input};
+ghost use Rattle.lb_system.specs.Answers.{AreNone, HasCause, HasReport, HasRun, IsOfText, IsReason, IsReport, ReadFails, ShowsForm, WritesLine, WritesReport, most_input};
+ghost use Rattle.lb_system.specs.InternalAnswers.{IsTold};
 
 use crate::answer::{Answer, answer_to};
 use crate::fault::Fault;

@@ -8,10 +8,10 @@ use Rattle.lb_spelling.specs.declared.symbol.Symbol.{Symbol}
 use Rattle.lb_spelling.specs.declared.symbol.Symbol.TheVariants as symbols
 use Rattle.lb_spelling.specs.Tokens.{Token, Skip, Unset, Store, StackAlloc, If, Else, While, Named, Device, OpenBrace, CloseBrace, Stands}
 use Rattle.lb_spelling.specs.Grammar.{◌then◌, CommandAt, CommandsAt, BlockAt, ElseAt}
-use Rattle.lb_spelling.specs.Machine.{Stack, next_after_if, next_commands, opened}
-use Rattle.lb_spelling.specs.Parsing.{Takes}
+use Rattle.lb_spelling.specs.InternalMachine.{Stack, next_after_if, next_commands, opened}
+use Rattle.lb_spelling.specs.InternalParsing.{Takes}
 use Rattle.lb_text.specs.declared.halt.Halt.{Halt}
-use Rattle.lb_text.specs.Reading.{or_empty, coming, Goes, Reads, ReadsUpTo, Fails, Took, After, begins_command}
+use Rattle.lb_text.specs.InternalReading.{or_empty, coming, Goes, Reads, ReadsUpTo, Fails, Took, After, begins_command}
 use Rattle.lb_spelling.proofs.TextRuns.{token_less}
 use Rattle.lb_text.proofs.Steps.{start, and_token, and_part, and_parts, token_reads, fails_at, fails_among, fails_all}
 use Rattle.lb_text.proofs.Calls.{through, closed}

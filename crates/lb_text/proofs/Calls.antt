@@ -8,10 +8,10 @@ use Rattle.lb_spelling.specs.declared.symbol.Symbol.{Symbol}
 use Rattle.lb_spelling.specs.declared.symbol.Symbol.TheVariants as symbols
 use Rattle.lb_spelling.specs.Tokens.{Token, Named, Device, OpenParen, Semicolon, Comma, Becomes, Stands}
 use Rattle.lb_spelling.specs.Grammar.{Standing, ◌then◌, NameAt, TargetsAt, CommandAt}
-use Rattle.lb_spelling.specs.Machine.{Stack, opened, call}
-use Rattle.lb_spelling.specs.Parsing.{outcome, Takes}
+use Rattle.lb_spelling.specs.InternalMachine.{Stack, opened, call}
+use Rattle.lb_spelling.specs.InternalParsing.{outcome, Takes}
 use Rattle.lb_text.specs.declared.halt.Halt.{Halt}
-use Rattle.lb_text.specs.Reading.{coming, Goes, Reads, ReadsMore, Fails, After}
+use Rattle.lb_text.specs.InternalReading.{coming, Goes, Reads, ReadsMore, Fails, After}
 use Rattle.lb_text.proofs.Steps.{start, and_token, and_part, and_parts, token_reads, fails_all}
 
 -- from before a token on, which leaves a part to come

@@ -8,12 +8,12 @@ use Rattle.lb_spelling.specs.declared.symbol.Symbol.TheVariants as symbols
 use Rattle.lb_spelling.specs.Tokens.{Token, Fn, Arrow, OpenBrace, Stands, Outside, gap}
 use Rattle.lb_spelling.specs.Grammar.{Standing, ◌then◌, CommandsAt, BlockAt, ResultsAt, FunctionAt, FunctionsAt}
 use Rattle.lb_spelling.specs.Places.{IsAccepted}
-use Rattle.lb_spelling.specs.Machine.{Stack, next_functions}
-use Rattle.lb_spelling.specs.Parsing.{Takes}
+use Rattle.lb_spelling.specs.InternalMachine.{Stack, next_functions}
+use Rattle.lb_spelling.specs.InternalParsing.{Takes}
 use Rattle.lb_spelling.proofs.TextRuns.{token_less}
 use Rattle.lb_spelling.proofs.Place.{gap_whole, whole_shallow}
 use Rattle.lb_text.specs.declared.halt.Halt.{Halt}
-use Rattle.lb_text.specs.Reading.{Goes, Reads, Fails, After}
+use Rattle.lb_text.specs.InternalReading.{Goes, Reads, Fails, After}
 use Rattle.lb_text.proofs.Steps.{start, and_token, and_part, and_parts, fails_at, fails_among, fails_all}
 use Rattle.lb_text.proofs.Calls.{through}
 use Rattle.lb_text.proofs.Lists.{SoFar, one_more, all_read}

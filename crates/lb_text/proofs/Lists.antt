@@ -8,10 +8,10 @@ use Rattle.lb_spelling.specs.declared.symbol.Symbol.{Symbol}
 use Rattle.lb_spelling.specs.declared.symbol.Symbol.TheVariants as symbols
 use Rattle.lb_spelling.specs.Tokens.{Token, Numeral, Named, Load, OpenParen, Stands, CloseParen, Comma, Becomes}
 use Rattle.lb_spelling.specs.Grammar.{Standing, ◌then◌, MoreAt, NameAt, NamesAt, TermAt, ArgumentsAt}
-use Rattle.lb_spelling.specs.Machine.{Stack, next, next_more_names, next_more_targets, next_arguments, next_more_arguments, opened}
-use Rattle.lb_spelling.specs.Parsing.{Takes}
+use Rattle.lb_spelling.specs.InternalMachine.{Stack, next, next_more_names, next_more_targets, next_arguments, next_more_arguments, opened}
+use Rattle.lb_spelling.specs.InternalParsing.{Takes}
 use Rattle.lb_text.specs.declared.halt.Halt.{Halt}
-use Rattle.lb_text.specs.Reading.{coming, Goes, Reads, ReadsFrom, ReadsMore, Fails, FailsFrom, After, ends_names, last_of}
+use Rattle.lb_text.specs.InternalReading.{coming, Goes, Reads, ReadsFrom, ReadsMore, Fails, FailsFrom, After, ends_names, last_of}
 use Rattle.lb_text.proofs.Steps.{start, and_token, and_part, and_parts, fails_at, fails_among, fails_all, token_reads}
 use Rattle.lb_text.proofs.Signs.{takes_this}
 

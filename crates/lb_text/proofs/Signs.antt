@@ -6,9 +6,9 @@ use Rattle.lb_syntax.specs.Brackets.{most_brackets}
 use Rattle.lb_spelling.specs.declared.symbol.Symbol.{Symbol}
 use Rattle.lb_spelling.specs.declared.symbol.Symbol.TheVariants as symbols
 use Rattle.lb_spelling.specs.Tokens.{Token, Stands, OpenParen, CloseParen, OpenBrace, Comma, Semicolon, As}
-use Rattle.lb_spelling.specs.Machine.{next_open_paren, next_close_paren, next_comma, next_semicolon, next_as, next_block, opened}
-use Rattle.lb_spelling.specs.Parsing.{Takes}
-use Rattle.lb_text.specs.Reading.{Reads, is_sign, sign_of}
+use Rattle.lb_spelling.specs.InternalMachine.{next_open_paren, next_close_paren, next_comma, next_semicolon, next_as, next_block, opened}
+use Rattle.lb_spelling.specs.InternalParsing.{Takes}
+use Rattle.lb_text.specs.InternalReading.{Reads, is_sign, sign_of}
 use Rattle.lb_text.proofs.Steps.{token_reads}
 
 open_paren_only : (t : Token) → is_some (next_open_paren t) ≡ true → t ≡ OpenParen

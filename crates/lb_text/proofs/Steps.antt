@@ -6,11 +6,11 @@ use Rattle.lb_syntax.specs.Brackets.{most_brackets}
 use Rattle.lb_spelling.specs.declared.symbol.Symbol.{Symbol}
 use Rattle.lb_spelling.specs.Tokens.{Token, Stands}
 use Rattle.lb_spelling.specs.Grammar.{Standing}
-use Rattle.lb_spelling.specs.Machine.{Stack, next, opened}
-use Rattle.lb_spelling.specs.Parsing.{outcome, Takes}
+use Rattle.lb_spelling.specs.InternalMachine.{Stack, next, opened}
+use Rattle.lb_spelling.specs.InternalParsing.{outcome, Takes}
 use Rattle.lb_text.specs.declared.halt.Halt.{Halt}
 use Rattle.lb_text.specs.declared.halt.Halt.TheVariants.{Memory, Fault}
-use Rattle.lb_text.specs.Reading.{or_empty, coming, Goes, Reads, Fails, After, ReadsFrom, FailsFrom}
+use Rattle.lb_text.specs.InternalReading.{or_empty, coming, Goes, Reads, Fails, After, ReadsFrom, FailsFrom}
 use Rattle.lb_spelling.proofs.Running.{token_runs}
 use Rattle.lb_spelling.proofs.TextRuns.{token_less}
 

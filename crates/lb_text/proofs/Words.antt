@@ -3,8 +3,8 @@ use Rattle.std.proofs.Common.{◌≡◌, ℕ, true, List, [], ◌∷◌, ◌++�
 use Rattle.std.specs.Prelude.{is_some}
 use Rattle.lb_syntax.specs.declared.tree.Action.{Action}
 use Rattle.lb_spelling.specs.declared.symbol.Symbol.TheVariants as symbols
-use Rattle.lb_spelling.specs.Machine.{next_source, next_commands, next_after_if, next_results}
-use Rattle.lb_text.specs.Reading.{coming, begins_command}
+use Rattle.lb_spelling.specs.InternalMachine.{next_source, next_commands, next_after_if, next_results}
+use Rattle.lb_text.specs.InternalReading.{coming, begins_command}
 use Rattle.lb_spelling.specs.Tokens.{Named, Stands, Comma, CloseParen, OpenBrace}
 use Rattle.lb_syntax.specs.Names.{Text, IsName}
 use Rattle.lb_spelling.proofs.Lexing.{lexeme_name}

@@ -6,7 +6,7 @@ ghost use Rattle.lb_syntax.specs.Tree.{term_of, command_of};
 ghost use Rattle.lb_spelling.specs.declared.symbol.Symbol.TheVariants as symbols;
 ghost use Rattle.lb_spelling.specs.Tokens.{OpenParen, CloseParen, Semicolon, Stands};
 ghost use Rattle.lb_spelling.specs.Grammar.{◌then◌, TermAt, ArgumentsAt, TargetsAt, CommandAt};
-ghost use Rattle.lb_text.specs.Reading.{Reads, Fails, After, token_of_callee};
+ghost use Rattle.lb_text.specs.InternalReading.{Reads, Fails, After, token_of_callee};
 
 use crate::halt::Halt;
 use crate::term::{term, term_from};

@@ -6,7 +6,7 @@ ghost use Rattle.lb_spelling.specs.declared.symbol.Symbol.TheVariants as symbols
 ghost use Rattle.lb_spelling.specs.Tokens.{If, While, StackAlloc, Stands};
 ghost use Rattle.lb_spelling.specs.Grammar.{◌then◌, CommandAt, CommandsAt, BlockAt, ElseAt};
 ghost use Rattle.lb_scan.specs.Words.{token_of};
-ghost use Rattle.lb_text.specs.Reading.{Reads, ReadsUpTo, Fails, After, coming, Took, begins_plain, begins_command};
+ghost use Rattle.lb_text.specs.InternalReading.{Reads, ReadsUpTo, Fails, After, coming, Took, begins_plain, begins_command};
 
 use crate::call::Callee;
 use crate::halt::Halt;

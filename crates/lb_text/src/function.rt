@@ -4,7 +4,7 @@ ghost use Rattle.lb_syntax.specs.Tree.{procedure_of, block_of};
 ghost use Rattle.lb_spelling.specs.declared.symbol.Symbol.TheVariants as symbols;
 ghost use Rattle.lb_spelling.specs.Tokens.{Fn, Arrow, Stands};
 ghost use Rattle.lb_spelling.specs.Grammar.{◌then◌, BlockAt, ResultsAt, FunctionAt};
-ghost use Rattle.lb_text.specs.Reading.{Reads, Fails, After};
+ghost use Rattle.lb_text.specs.InternalReading.{Reads, Fails, After};
 
 use crate::command::{block, commands};
 use crate::halt::Halt;

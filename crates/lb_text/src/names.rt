@@ -6,7 +6,7 @@ ghost use Rattle.lb_spelling.specs.declared.symbol.Symbol.TheVariants as symbols
 ghost use Rattle.lb_spelling.specs.Tokens.{CloseParen, Stands};
 ghost use Rattle.lb_spelling.specs.Grammar.{◌then◌, NameAt, NamesAt};
 ghost use Rattle.lb_text.specs.declared.halt.Halt.TheVariants.{Memory};
-ghost use Rattle.lb_text.specs.Reading.{Reads, Fails, ReadsMore, ends_names};
+ghost use Rattle.lb_text.specs.InternalReading.{Reads, Fails, ReadsMore, ends_names};
 
 use crate::halt::Halt;
 use crate::token::token;

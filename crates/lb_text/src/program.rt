@@ -5,7 +5,7 @@ ghost use Rattle.lb_spelling.specs.declared.symbol.Symbol.TheVariants as symbols
 ghost use Rattle.lb_spelling.specs.Grammar.{IsText};
 ghost use Rattle.lb_spelling.specs.Places.{IsAccepted};
 ghost use Rattle.lb_text.specs.Refusal.{RefusedBy, FaultOf};
-ghost use Rattle.lb_text.specs.Reading.{Fails};
+ghost use Rattle.lb_text.specs.InternalReading.{Fails};
 
 use crate::error::ReadError;
 use crate::function::function;

@@ -5,9 +5,9 @@ ghost use Rattle.lb_syntax.specs.Tree.{command_of};
 ghost use Rattle.lb_spelling.specs.declared.symbol.Symbol.TheVariants as symbols;
 ghost use Rattle.lb_spelling.specs.Tokens.{Named, Unset, Store, Device, Comma, Becomes, Stands};
 ghost use Rattle.lb_spelling.specs.Grammar.{◌then◌, TargetsAt, CommandAt};
-ghost use Rattle.lb_spelling.specs.Machine.{opened, call};
+ghost use Rattle.lb_spelling.specs.InternalMachine.{opened, call};
 ghost use Rattle.lb_scan.specs.Words.{token_of};
-ghost use Rattle.lb_text.specs.Reading.{Reads, Fails, After, Took, coming, token_of_callee};
+ghost use Rattle.lb_text.specs.InternalReading.{Reads, Fails, After, Took, coming, token_of_callee};
 
 use crate::call::{Callee, call};
 use crate::halt::Halt;

@@ -5,9 +5,9 @@ ghost use Rattle.lb_syntax.specs.Tree.{term_of};
 ghost use Rattle.lb_spelling.specs.declared.symbol.Symbol.TheVariants as symbols;
 ghost use Rattle.lb_spelling.specs.Tokens.{OpenParen, Load, Sign, Stands};
 ghost use Rattle.lb_spelling.specs.Grammar.{TermAt};
-ghost use Rattle.lb_spelling.specs.Machine.{next, opened};
+ghost use Rattle.lb_spelling.specs.InternalMachine.{next, opened};
 ghost use Rattle.lb_scan.specs.Words.{token_of};
-ghost use Rattle.lb_text.specs.Reading.{Reads, Fails, ReadsFrom, FailsFrom, Took, After};
+ghost use Rattle.lb_text.specs.InternalReading.{Reads, Fails, ReadsFrom, FailsFrom, Took, After};
 
 use crate::halt::Halt;
 use crate::names::checked;

@@ -3,10 +3,10 @@ ghost use Rattle.std.specs.Prelude.{◌≡◌, ℕ, ◌≤◌, ◌∷◌, [], tr
 ghost use Rattle.lb_syntax.specs.Brackets.{most_brackets};
 ghost use Rattle.lb_spelling.specs.Tokens.{Stands, Numeral};
 ghost use Rattle.lb_spelling.specs.declared.symbol.Symbol.TheVariants as symbols;
-ghost use Rattle.lb_spelling.specs.Machine.{Stack, ends, opened};
-ghost use Rattle.lb_spelling.specs.Parsing.{Takes};
+ghost use Rattle.lb_spelling.specs.InternalMachine.{Stack, ends, opened};
+ghost use Rattle.lb_spelling.specs.InternalParsing.{Takes};
 ghost use Rattle.lb_scan.specs.Words.{token_of};
-ghost use Rattle.lb_text.specs.Reading.{Reads, Fails, sign_of, is_sign};
+ghost use Rattle.lb_text.specs.InternalReading.{Reads, Fails, sign_of, is_sign};
 
 use crate::halt::Halt;
 use lb_scan::{Word, scan};

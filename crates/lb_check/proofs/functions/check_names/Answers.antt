@@ -5,7 +5,7 @@ use Rattle.std.proofs.lemmas.List.{map-append}
 use Rattle.std.proofs.lemmas.Result.{err_from_is_err_and}
 use Rattle.lb_check.specs.declared.fault.CheckFault.TheVariants.{DuplicateName}
 use Rattle.lb_check.specs.Order.{repeated}
-use Rattle.lb_check.specs.Verdict.{Tells}
+use Rattle.lb_check.specs.InternalVerdict.{Tells}
 use Rattle.lb_check.proofs.Tell.{tells_same, tells_front}
 use Rattle.lb_check.proofs.functions.check_names.Goals as goal
 

@@ -1,6 +1,6 @@
 use Rattle.std.proofs.Common.{◌≡◌, ◌++◌, map}
 use Rattle.lb_syntax.specs.Tree.{procedure_of, block_of}
-use Rattle.lb_check.specs.Places.{called}
+use Rattle.lb_check.specs.InternalPlaces.{called}
 use Rattle.lb_syntax.proofs.BlockLemmas.{rest}
 use Rattle.lb_check.proofs.stack.+add.Given as goal
 

@@ -1,6 +1,6 @@
 use Rattle.std.proofs.Common.{◌≡◌, ◌++◌, drop, map}
 use Rattle.lb_syntax.specs.Tree.{procedure_of}
-use Rattle.lb_check.specs.Places.{places_from}
+use Rattle.lb_check.specs.InternalPlaces.{places_from}
 use Rattle.lb_check.proofs.stack.add_places.Given as goal
 
 -- the places so far, and those of what is left, are all

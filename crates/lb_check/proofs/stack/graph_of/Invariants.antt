@@ -1,6 +1,6 @@
 use Rattle.std.proofs.Common.{◌≡◌, ◌++◌, drop, map}
 use Rattle.lb_syntax.specs.Tree.{procedure_of}
-use Rattle.lb_check.specs.Places.{called, call_graph}
+use Rattle.lb_check.specs.InternalPlaces.{called, call_graph}
 use Rattle.lb_check.proofs.stack.graph_of.Given as goal
 
 -- the rows so far, and those of what is left, are the graph

@@ -2,7 +2,7 @@
 use Rattle.std.proofs.Common.{ℕ, ◌≡◌, ◌<◌, List, length, slice_index, ap, subst, ◌∙◌, arith}
 use Rattle.std.proofs.lemmas.Grind.{get_or_default_zero}
 use Rattle.lb_graph.specs.Paths.{successors}
-use Rattle.lb_graph.specs.Search.{Adds}
+use Rattle.lb_graph.specs.InternalSearch.{Adds}
 use Rattle.lb_graph.proofs.SearchLemmas.{search_begins, search_goes, search_ends, marked_node, read_at}
 use Rattle.lb_graph.proofs.cycle.reached_from.Goals as goal
 

@@ -1,5 +1,5 @@
 use Rattle.std.proofs.Common.{take}
-use Rattle.lb_graph.specs.Best.{IsGreatest}
+use Rattle.lb_graph.specs.InternalBest.{IsGreatest}
 use Rattle.lb_graph.proofs.weight.greatest.Given as goal
 
 abbrev pub invariant-loop-b : goal.invariant-loop-b

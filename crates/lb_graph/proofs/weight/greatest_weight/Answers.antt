@@ -1,6 +1,6 @@
 -- The greatest of the best from each node.
 use Rattle.std.proofs.Common.{ℕ, List, subst}
-use Rattle.lb_graph.specs.Best.{IsGreatest}
+use Rattle.lb_graph.specs.InternalBest.{IsGreatest}
 use Rattle.lb_graph.proofs.BestLemmas.{best_of_all}
 use Rattle.lb_graph.proofs.weight.greatest_weight.Goals as goal
 

@@ -1,6 +1,6 @@
 -- One node more.
 use Rattle.std.proofs.Common.{◌<◌, ℕ, List, length, ap, subst, arith}
-use Rattle.lb_graph.specs.Best.{IsGreatestAmong}
+use Rattle.lb_graph.specs.InternalBest.{IsGreatestAmong}
 use Rattle.lb_graph.proofs.BestLemmas.{step_more}
 use Rattle.lb_graph.proofs.SearchLemmas.{read_at}
 use Rattle.lb_graph.proofs.weight.one_edge_more.Goals as goal

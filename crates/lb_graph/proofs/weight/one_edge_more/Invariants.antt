@@ -1,4 +1,4 @@
-use Rattle.lb_graph.specs.Best.{IsStep}
+use Rattle.lb_graph.specs.InternalBest.{IsStep}
 use Rattle.lb_graph.proofs.weight.one_edge_more.Given as goal
 
 abbrev pub invariant-loop-node : goal.invariant-loop-node

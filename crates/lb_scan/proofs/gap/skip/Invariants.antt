@@ -1,6 +1,6 @@
 use Rattle.std.proofs.Common.{length}
 use Rattle.lb_spelling.specs.Tokens.{Outside}
-use Rattle.lb_scan.specs.Scanning.{Skips}
+use Rattle.lb_scan.specs.InternalScanning.{Skips}
 use Rattle.lb_scan.proofs.gap.skip.Given as goal
 
 abbrev pub invariant-loop-after : goal.invariant-loop-after

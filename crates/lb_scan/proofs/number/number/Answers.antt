@@ -1,6 +1,6 @@
 use Rattle.std.proofs.Common.{subst, sym, List, ℕ}
 use Rattle.std.proofs.lemmas.Result.{IfOk-weaker, IfErr-weaker}
-use Rattle.lb_scan.specs.Scanning.{ReadsNumber, NumberFault}
+use Rattle.lb_scan.specs.InternalScanning.{ReadsNumber, NumberFault}
 use Rattle.lb_scan.proofs.Marks.{reads_decimal, reads_hex, decimal_fault, hexadecimal_fault}
 use Rattle.lb_scan.proofs.number.number.Goals as goal
 

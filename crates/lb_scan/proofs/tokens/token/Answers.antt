@@ -2,7 +2,7 @@ use Rattle.std.proofs.Common.{◌≡◌, ◌≤◌, ◌∙◌, sym, rules, true}
 use Rattle.std.specs.Prelude.{is_some}
 use Rattle.std.proofs.lemmas.Result.{err_from_is_err_and, IfOk-weaker, IfErr-weaker}
 use Rattle.lb_syntax.specs.Brackets.{most_brackets, open_after}
-use Rattle.lb_spelling.specs.Machine.{next}
+use Rattle.lb_spelling.specs.InternalMachine.{next}
 use Rattle.lb_spelling.specs.Tokens.{Numeral}
 use Rattle.lb_spelling.proofs.Lexing.{any_number}
 use Rattle.lb_scan.specs.Words.{token_of}

@@ -1,6 +1,6 @@
 use Rattle.std.proofs.Common.{◌≡◌, drop}
 use Rattle.lb_source.specs.Run.{set_all}
-use Rattle.lb_source.specs.Machine.{variables_of}
+use Rattle.lb_source.specs.InternalMachine.{variables_of}
 use Rattle.lb_source.proofs.machine.assign_all.Given as goal
 
 abbrev pub invariant-loop-i : goal.invariant-loop-i

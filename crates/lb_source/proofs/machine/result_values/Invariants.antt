@@ -2,7 +2,7 @@ use Rattle.std.proofs.Common.{◌≡◌, drop}
 use Rattle.std.specs.Prelude.{map}
 use Rattle.lb_syntax.specs.Tree.{Variable}
 use Rattle.lb_source.specs.Value.{values}
-use Rattle.lb_source.specs.Machine.{variables_of, memory_of}
+use Rattle.lb_source.specs.InternalMachine.{variables_of, memory_of}
 use Rattle.lb_source.proofs.ValueLemmas.{after}
 use Rattle.lb_source.proofs.machine.result_values.Given as goal
 

@@ -1,6 +1,6 @@
 use Rattle.std.proofs.Common.{◌+◌, arith, sym, ap, ◌∙◌, Some}
 use Rattle.lb_source.specs.Maps.{Memory, with_range}
-use Rattle.lb_source.specs.Machine.{memory_of, cell_of}
+use Rattle.lb_source.specs.InternalMachine.{memory_of, cell_of}
 use Rattle.lb_source.proofs.MemoryLemmas.{cells_set, fill_next, fill_none}
 use Rattle.lb_source.proofs.memory.fill_cells.Goals as goal
 

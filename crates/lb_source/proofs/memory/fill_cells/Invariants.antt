@@ -1,6 +1,6 @@
 use Rattle.std.proofs.Common.{◌≡◌, Some}
 use Rattle.lb_source.specs.Maps.{with_range}
-use Rattle.lb_source.specs.Machine.{memory_of, cell_of}
+use Rattle.lb_source.specs.InternalMachine.{memory_of, cell_of}
 use Rattle.lb_source.proofs.memory.fill_cells.Given as goal
 
 abbrev pub invariant-loop-i : goal.invariant-loop-i

@@ -4,7 +4,7 @@ use Rattle.lb_syntax.specs.Tree.{command_of, block_of, term_of, program_of}
 use Rattle.lb_syntax.specs.Tree.{Sets, Stores, Allocates, Calls, Chooses}
 use Rattle.lb_source.specs.Source.{callables}
 use Rattle.lb_source.specs.Run.{value_in}
-use Rattle.lb_source.specs.Machine.{state_of}
+use Rattle.lb_source.specs.InternalMachine.{state_of}
 use Rattle.lb_syntax.proofs.BlockLemmas.{rest_at, rest_end}
 use Rattle.lb_syntax.proofs.TreeFacts.{says_set, says_store, says_call, says_allocates, says_if}
 use Rattle.lb_source.proofs.ArmFacts.{arm, set_follows, no_follows, yes_follows, allocated_ends, allocated_goes, remade, first_and_rest, entry_ends, entry_goes}

@@ -6,7 +6,7 @@ use Rattle.lb_syntax.specs.declared.tree.Cmd.{size-Cmd}
 use Rattle.lb_syntax.specs.declared.tree.Block.{size-Block}
 use Rattle.lb_syntax.proofs.BlockLemmas.{rest}
 use Rattle.lb_source.specs.Source.{callables}
-use Rattle.lb_source.specs.Machine.{BlocksFit, deepest}
+use Rattle.lb_source.specs.InternalMachine.{BlocksFit, deepest}
 use Rattle.lb_source.proofs.RunFacts.{Leaves, LeavesTurns}
 use Rattle.lb_source.proofs.run.+run.Given as goal
 

@@ -1,5 +1,5 @@
 use Rattle.std.proofs.Common.{◌≡◌, drop}
-use Rattle.lb_source.specs.Machine.{variables_of}
+use Rattle.lb_source.specs.InternalMachine.{variables_of}
 use Rattle.lb_source.proofs.variables.find.Given as goal
 
 abbrev pub invariant-loop-entry : goal.invariant-loop-entry

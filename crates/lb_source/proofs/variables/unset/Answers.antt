@@ -1,6 +1,6 @@
 use Rattle.std.proofs.Common.{rules, ◌∙◌, ap}
 use Rattle.std.proofs.lemmas.Fn.{filter_same}
-use Rattle.lb_source.specs.Machine.{variables_of}
+use Rattle.lb_source.specs.InternalMachine.{variables_of}
 use Rattle.lb_source.proofs.MapLemmas.{same_everywhere, variables_of-without}
 use Rattle.lb_source.proofs.variables.unset.Goals as goal
 

@@ -2,7 +2,7 @@ use Rattle.std.proofs.Common.{List, ap, sym, ◌∙◌, subst, arith}
 use Rattle.lb_syntax.specs.Tree.{program_of}
 use Rattle.lb_syntax.specs.declared.tree.Program.{Program}
 use Rattle.lb_trace.specs.declared.Event.{Event}
-use Rattle.lb_source.specs.Machine.{FollowsWhole}
+use Rattle.lb_source.specs.InternalMachine.{FollowsWhole}
 use Rattle.lb_source.specs.Run.{State}
 use Rattle.lb_source.specs.Source.{callables, whole}
 use Rattle.lb_source.specs.declared.ends.SourceRun.{SourceRun}

@@ -3,7 +3,7 @@ use Rattle.std.specs.Prelude.{max}
 use Rattle.lb_syntax.specs.Tree.{block_of}
 use Rattle.lb_syntax.specs.WellFormed.{IsBlock}
 use Rattle.lb_syntax.specs.Parts.{command_parts}
-use Rattle.lb_syntax.specs.Nesting.{command_nest}
+use Rattle.lb_syntax.specs.InternalNesting.{command_nest}
 use Rattle.lb_syntax.proofs.BlockLemmas.{rest}
 use Rattle.lb_syntax.proofs.nesting.+of_command.Given as goal
 

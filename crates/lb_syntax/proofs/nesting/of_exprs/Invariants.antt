@@ -4,7 +4,7 @@ use Rattle.std.specs.List.{AllByRecursion}
 use Rattle.lb_syntax.specs.Tree.{term_of}
 use Rattle.lb_syntax.specs.WellFormed.{IsTerm}
 use Rattle.lb_syntax.specs.Needs.{nodes}
-use Rattle.lb_syntax.specs.Nesting.{terms_nest}
+use Rattle.lb_syntax.specs.InternalNesting.{terms_nest}
 use Rattle.lb_syntax.proofs.nesting.of_exprs.Given as goal
 
 -- the rest has what the count lacks, and it is well-formed if the rest is

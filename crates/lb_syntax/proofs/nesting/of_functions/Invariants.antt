@@ -4,7 +4,7 @@ use Rattle.std.specs.List.{AllByRecursion}
 use Rattle.lb_syntax.specs.Tree.{procedure_of}
 use Rattle.lb_syntax.specs.WellFormed.{IsProcedure}
 use Rattle.lb_syntax.specs.Parts.{program_parts}
-use Rattle.lb_syntax.specs.Nesting.{program_nest}
+use Rattle.lb_syntax.specs.InternalNesting.{program_nest}
 use Rattle.lb_syntax.proofs.nesting.of_functions.Given as goal
 
 -- the rest has what the count lacks, and it is well-formed if the rest is

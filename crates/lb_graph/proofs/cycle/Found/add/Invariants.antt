@@ -1,5 +1,5 @@
 use Rattle.std.proofs.Common.{take}
-use Rattle.lb_graph.specs.Search.{Adds}
+use Rattle.lb_graph.specs.InternalSearch.{Adds}
 use Rattle.lb_graph.proofs.cycle.Found.add.Given as goal
 
 abbrev pub invariant-loop-node : goal.invariant-loop-node

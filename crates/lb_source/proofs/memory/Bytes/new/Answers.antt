@@ -1,6 +1,6 @@
 use Rattle.std.proofs.Common.{ap, ◌∙◌}
 use Rattle.lb_memory.specs.declared.TheConstants.{STACK_TOP}
-use Rattle.lb_source.specs.Machine.{memory_of}
+use Rattle.lb_source.specs.InternalMachine.{memory_of}
 use Rattle.lb_source.proofs.MemoryLemmas.{absent_nothing}
 use Rattle.lb_source.proofs.memory.Bytes.new.Goals as goal
 

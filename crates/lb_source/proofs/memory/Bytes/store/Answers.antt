@@ -1,5 +1,5 @@
 use Rattle.std.proofs.Common.{◌≡◌, Err, rules, sym, ◌∙◌}
-use Rattle.lb_source.specs.Machine.{memory_of, stored}
+use Rattle.lb_source.specs.InternalMachine.{memory_of, stored}
 use Rattle.lb_source.proofs.MemoryLemmas.{store_two, store_four, store_four_fails, store_four_fails_late}
 use Rattle.lb_source.proofs.memory.Bytes.store.Goals as goal
 

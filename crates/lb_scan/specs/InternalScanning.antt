@@ -1,4 +1,4 @@
--- What the private functions say.
+-- What the parts of a scan say. Only contracts of private functions cite it.
 use Rattle.std.specs.Prelude.{◌≡◌, ℕ, ◌<◌, ◌≤◌, ◌^◌, ◌⊎◌, Bool, true, false, ◌&&◌, ◌==◌, [], ◌∷◌, ◌++◌, length, take, drop, slice_index, Some, is_some}
 use Rattle.std.specs.Char.{is_digit}
 use Rattle.std.specs.List.{list_all}
@@ -7,7 +7,7 @@ use Rattle.lb_syntax.specs.Brackets.{most_brackets}
 use Rattle.lb_syntax.specs.Names.{Text}
 use Rattle.lb_spelling.specs.declared.fault.TextKind.TheVariants.{Ended, NumberTooWide}
 use Rattle.lb_spelling.specs.declared.symbol.Symbol.{Symbol}
-use Rattle.lb_spelling.specs.Machine.{Stack, Lex, Between, InComment, Part, Stuck, run, next, unexpected}
+use Rattle.lb_spelling.specs.InternalMachine.{Stack, Lex, Between, InComment, Part, Stuck, run, next, unexpected}
 use Rattle.lb_spelling.specs.Tokens.{Token, Numeral, Mode, Outside, Slash, Comment, gap, is_blank, is_word_byte, lexeme, joins, IsLongest}
 use Rattle.lb_scan.specs.declared.stop.Stop.{Stop}
 

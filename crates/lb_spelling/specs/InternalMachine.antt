@@ -1,4 +1,4 @@
--- Reading byte by byte, with a stack of what is still to come. Only contracts of the parts of the reader cite it.
+-- Reading byte by byte, with a stack of what is still to come. Only contracts of lb_scan and of private functions of lb_text cite it.
 use Rattle.std.specs.Prelude.{ℕ, ◌+◌, ◌-◌, Bool, true, false, ◌&&◌, ◌||◌, ◌==◌, nat_le, if◌then◌else◌, List, [], ◌∷◌, ◌++◌, length, Option, Some, None, is_some}
 use Rattle.std.specs.List.{list_any}
 use Rattle.lb_syntax.specs.Names.{Text}

@@ -1,4 +1,4 @@
--- The greatest weights of the paths that begin at each node.
+-- The greatest weights of the paths that begin at each node. Only contracts of private functions cite it.
 use Rattle.std.specs.Prelude.{◌≡◌, ℕ, ◌+◌, ◌*◌, ◌^◌, ◌<◌, ◌≤◌, ◌⊎◌, List, ◌∷◌, length, slice_index, Contains}
 use Rattle.lb_graph.specs.Paths.{successors, IsPath, path_weight}
 

@@ -1,4 +1,4 @@
--- The graph of calls: functions by their places in the text.
+-- The graph of calls: functions by their places in the text. Only contracts of private functions cite it.
 use Rattle.std.specs.Prelude.{ℕ, ◌+◌, List, [], ◌∷◌, map, flat_map, if◌then◌else◌}
 use Rattle.std.specs.Str.{bytes_eq}
 use Rattle.lb_syntax.specs.Names.{Text}

@@ -1,4 +1,4 @@
--- What a search marks, and the order in which it finds it.
+-- What a search marks, and the order in which it finds it. Only contracts of private functions cite it.
 use Rattle.std.specs.Prelude.{◌≡◌, ℕ, ◌<◌, ◌≤◌, ◌⊎◌, List, Bool, true, false, length, slice_index, slice_index_or, Contains, count_by}
 use Rattle.lb_graph.specs.Paths.{successors, LeadsTo}
 

@@ -1,5 +1,6 @@
--- What the private functions say. Each reads from a place where n brackets are open and a stack of symbols has to come,
--- and gives the text behind what it read. Behind that stack any other may have to come: so what holds of a part holds of the whole.
+-- What the parts of the reader say. Only contracts of private functions cite it.
+-- Each reads from a place where n brackets are open and a stack of symbols has to come, and gives the text behind what it read.
+-- Behind that stack any other may have to come: so what holds of a part holds of the whole.
 use Rattle.std.specs.Prelude.{◌≡◌, ℕ, ◌<◌, ◌≤◌, Bool, true, false, Option, Some, None, List, [], ◌∷◌, ◌++◌, length}
 use Rattle.lb_syntax.specs.Names.{Text}
 use Rattle.lb_syntax.specs.Brackets.{most_brackets}
@@ -8,8 +9,8 @@ use Rattle.lb_spelling.specs.declared.symbol.Symbol.{Symbol}
 use Rattle.lb_spelling.specs.declared.symbol.Symbol.TheVariants as symbols
 use Rattle.lb_spelling.specs.Tokens.{Token, Skip, Unset, Store, StackAlloc, If, While, Named, Device, OpenParen, CloseParen, Comma, Semicolon, As, Becomes, Stands}
 use Rattle.lb_spelling.specs.Grammar.{Standing, ◌then◌, MoreAt, NameAt, CommandsAt}
-use Rattle.lb_spelling.specs.Machine.{Stack, Stuck, next, opened}
-use Rattle.lb_spelling.specs.Parsing.{outcome, Takes}
+use Rattle.lb_spelling.specs.InternalMachine.{Stack, Stuck, next, opened}
+use Rattle.lb_spelling.specs.InternalParsing.{outcome, Takes}
 use Rattle.lb_text.specs.declared.call.Callee.{Callee}
 use Rattle.lb_text.specs.declared.call.Callee.TheVariants.{Function}
 use Rattle.lb_text.specs.declared.call.Callee.TheVariants as Callees

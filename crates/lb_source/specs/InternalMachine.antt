@@ -1,4 +1,4 @@
--- What the interpreter's parts stand for.
+-- What the interpreter's parts stand for. Only contracts of private functions cite it.
 use Rattle.std.specs.Prelude.{◌≡◌, ℕ, ◌+◌, ◌≤◌, max, List, [], ◌∷◌, filter, not, drop, length, slice_get, codes, Option, Some, None, Result, Ok, Err, if◌then◌else◌}
 use Rattle.std.specs.Str.{bytes_eq}
 use Rattle.lb_memory.specs.declared.TheConstants.{STACK_TOP}

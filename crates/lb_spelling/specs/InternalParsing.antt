@@ -1,4 +1,5 @@
--- What the functions of a reader say. Each reads at a place where n brackets are open, and gives the text behind what it read.
+-- What the functions of a reader say. Only contracts of lb_scan and of private functions of lb_text cite it.
+-- Each reads at a place where n brackets are open, and gives the text behind what it read.
 -- A fault is told by its kind and by the bytes that are left at its place. What comes behind a part is any stack k:
 -- so a fault in a part is the same fault of the whole.
 use Rattle.std.specs.Prelude.{◌≡◌, ℕ, ◌≤◌, true, ◌∷◌, is_some}
@@ -7,7 +8,7 @@ use Rattle.lb_syntax.specs.Brackets.{most_brackets}
 use Rattle.lb_spelling.specs.declared.symbol.Symbol.{Symbol}
 use Rattle.lb_spelling.specs.declared.fault.TextKind.{TextKind}
 use Rattle.lb_spelling.specs.Tokens.{Token, Stands}
-use Rattle.lb_spelling.specs.Machine.{Stack, Between, Outcome, Stuck, run, next, opened}
+use Rattle.lb_spelling.specs.InternalMachine.{Stack, Between, Outcome, Stuck, run, next, opened}
 
 -- the outcome of a text, with the limit on brackets
 abbrev pub outcome : Text → ℕ → Stack → Outcome

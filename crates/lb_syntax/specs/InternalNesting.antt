@@ -1,4 +1,4 @@
--- How deep the brackets of a printing nest, counted on the tree.
+-- How deep the brackets of a printing nest, counted on the tree. Only contracts of private functions cite it.
 use Rattle.std.specs.Prelude.{ℕ, ◌+◌, max, List, map}
 use Rattle.lb_syntax.specs.Tree.{Term, Number, Variable, Loaded, Operation, Procedure}
 use Rattle.lb_syntax.specs.Tree.{Command, Skips, Sets, Unsets, Stores, Allocates, Chooses, Repeats, Calls, Interacts, Ends, Then}
