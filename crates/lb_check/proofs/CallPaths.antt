@@ -8,7 +8,7 @@ use Rattle.lb_syntax.specs.Names.{Text}
 use Rattle.lb_syntax.proofs.DistinctLemmas.{bytes_eq-same, bytes_eq-refl}
 use Rattle.lb_syntax.specs.Tree.{Procedure, Ends}
 use Rattle.lb_syntax.specs.Needs.{frame_need}
-use Rattle.lb_syntax.specs.Calls.{CallSite, calls, callees, IsCallPath, IsRecursive, path_need, IsStackNeed}
+use Rattle.lb_syntax.specs.Calls.{CallSite, call_sites, callees, IsCallPath, IsRecursive, path_need, IsStackNeed}
 use Rattle.lb_graph.specs.Paths.{successors, IsPath, IsOnCycle, IsAcyclic, path_weight, IsGreatestWeight}
 use Rattle.lb_check.specs.InternalPlaces.{places_from, called, call_graph}
 use Rattle.lb_check.specs.Verdict.{IsFirstRecursive}
@@ -111,10 +111,10 @@ nodes : (p : List Procedure) → length (call_graph p) ≡ length p
 nodes p = length-map p (λ (g : Procedure). called p g.body)
 
 call_edge : (p : List Procedure) (v w : ℕ) (f g : Procedure) → IsAt p v f → IsAt p w g → Contains (callees f) g.name → Contains (successors (call_graph p) v) w
-call_edge p v w f g a b h = subst (λ (ws : List ℕ). Contains ws w) (sym (row p v f a)) (named_site p (calls f.body) w g b h)
+call_edge p v w f g a b h = subst (λ (ws : List ℕ). Contains ws w) (sym (row p v f a)) (named_site p (call_sites f.body) w g b h)
 
 edge_call : (p : List Procedure) (v w : ℕ) (f g : Procedure) → IsAt p v f → IsAt p w g → Contains (successors (call_graph p) v) w → Contains (callees f) g.name
-edge_call p v w f g a b h = (site_named p (calls f.body) w (subst (λ (ws : List ℕ). Contains ws w) (row p v f a) h)).1 g b
+edge_call p v w f g a b h = (site_named p (call_sites f.body) w (subst (λ (ws : List ℕ). Contains ws w) (row p v f a) h)).1 g b
 
 -- a path of the graph is a path of calls
 inside : (p : List Procedure) (v : ℕ) → v < length (call_graph p) → v < length p

@@ -4,7 +4,7 @@ use Rattle.std.specs.Prelude.{flat_map}
 use Rattle.std.proofs.lemmas.Grind.{flat_map-append}
 use Rattle.lb_syntax.specs.Tree.{Command, Allocates, Chooses, Repeats, Calls, Interacts, Then}
 use Rattle.lb_syntax.specs.Needs.{sites}
-use Rattle.lb_syntax.specs.Calls.{CallSite, AccessSite, calls, accesses}
+use Rattle.lb_syntax.specs.Calls.{CallSite, AccessSite, call_sites, access_sites}
 use Rattle.lb_check.specs.Order.{commands}
 
 -- what a command is, those that stand in it aside
@@ -25,18 +25,18 @@ two : {A : Type 0} (own : Command → List A) (xs ys : List A) (b d : Command) �
 two own xs ys b d h k =
     ap (λ zs. zs ++ ys) h ∙ ap (λ zs. flat_map own (commands b) ++ zs) k ∙ sym (flat_map-append own (commands b) (commands d))
 
-pub calls_listed : (c : Command) → calls c ≡ flat_map own_calls (commands c)
+pub calls_listed : (c : Command) → call_sites c ≡ flat_map own_calls (commands c)
 calls_listed (Allocates n x b) = calls_listed b
-calls_listed (Chooses e b d) = two own_calls (calls b) (calls d) b d (calls_listed b) (calls_listed d)
+calls_listed (Chooses e b d) = two own_calls (call_sites b) (call_sites d) b d (calls_listed b) (calls_listed d)
 calls_listed (Repeats e b) = calls_listed b
-calls_listed (Then c b) = two own_calls (calls c) (calls b) c b (calls_listed c) (calls_listed b)
+calls_listed (Then c b) = two own_calls (call_sites c) (call_sites b) c b (calls_listed c) (calls_listed b)
 calls_listed _ = refl
 
-pub accesses_listed : (c : Command) → accesses c ≡ flat_map own_accesses (commands c)
+pub accesses_listed : (c : Command) → access_sites c ≡ flat_map own_accesses (commands c)
 accesses_listed (Allocates n x b) = accesses_listed b
-accesses_listed (Chooses e b d) = two own_accesses (accesses b) (accesses d) b d (accesses_listed b) (accesses_listed d)
+accesses_listed (Chooses e b d) = two own_accesses (access_sites b) (access_sites d) b d (accesses_listed b) (accesses_listed d)
 accesses_listed (Repeats e b) = accesses_listed b
-accesses_listed (Then c b) = two own_accesses (accesses c) (accesses b) c b (accesses_listed c) (accesses_listed b)
+accesses_listed (Then c b) = two own_accesses (access_sites c) (access_sites b) c b (accesses_listed c) (accesses_listed b)
 accesses_listed _ = refl
 
 pub sites_listed : (c : Command) → sites c ≡ flat_map own_sites (commands c)

@@ -13,7 +13,7 @@ use Rattle.lb_syntax.specs.declared.tree.Action.{Action}
 use Rattle.lb_syntax.specs.declared.tree.Action.TheVariants.{Read, Write}
 use Rattle.lb_syntax.specs.Tree.{Procedure, Command, Allocates, Calls, Interacts}
 use Rattle.lb_syntax.specs.Needs.{frame_need, sites}
-use Rattle.lb_syntax.specs.Calls.{CallSite, AccessSite, calls, accesses}
+use Rattle.lb_syntax.specs.Calls.{CallSite, AccessSite, call_sites, access_sites}
 use Rattle.lb_syntax.specs.Rules.{function_names, HasEntryShape, IsBlockSize, Fits, HasShape, IsGoodAccess}
 use Rattle.lb_check.specs.declared.fault.CheckFault.{CheckFault}
 use Rattle.lb_check.specs.declared.fault.CheckFault.TheVariants.{DuplicateName, EntryShape, TooManyParams, BadAllocSize, UnknownFunction, WrongArity, DuplicateTarget, BadIo, FrameNeed}
@@ -137,22 +137,22 @@ callee_own : (p : List Procedure) (f : Text) (c : Command) → command_faults of
 callee_own p f (Calls xs g es) = sym (append-nil (where_true (not (is_among (function_names p) g)) (UnknownFunction f g)))
 callee_own p f _ = refl
 
-callees : (p : List Procedure) (f : Text) (b : Command) → flat_map (command_faults of_command.Callee p f) (commands b) ≡ flat_map (callee_fault p f) (calls b)
+callees : (p : List Procedure) (f : Text) (b : Command) → flat_map (command_faults of_command.Callee p f) (commands b) ≡ flat_map (callee_fault p f) (call_sites b)
 callees p f b = spread (command_faults of_command.Callee p f) own_calls (callee_fault p f) (callee_own p f) (commands b) ∙ ap (flat_map (callee_fault p f)) (sym (calls_listed b))
 
 abbrev pub IsKnown : List Procedure → CallSite → Type 0
 IsKnown p site = Contains (function_names p) site.function
 
-pub callees_kept : (p : List Procedure) (f : Text) (b : Command) → flat_map (command_faults of_command.Callee p f) (commands b) ≡ [] → All (IsKnown p) (calls b)
+pub callees_kept : (p : List Procedure) (f : Text) (b : Command) → flat_map (command_faults of_command.Callee p f) (commands b) ≡ [] → All (IsKnown p) (call_sites b)
 callees_kept p f b h =
-    all_from_none (callee_fault p f) (IsKnown p) (calls b)
+    all_from_none (callee_fault p f) (IsKnown p) (call_sites b)
     (λ site e. contains_among (function_names p) site.function (not_false (is_among (function_names p) site.function) (where_none (not (is_among (function_names p) site.function)) (UnknownFunction f site.function) e)))
     (sym (callees p f b) ∙ h)
 
-pub kept_callees : (p : List Procedure) (f : Text) (b : Command) → All (IsKnown p) (calls b) → flat_map (command_faults of_command.Callee p f) (commands b) ≡ []
+pub kept_callees : (p : List Procedure) (f : Text) (b : Command) → All (IsKnown p) (call_sites b) → flat_map (command_faults of_command.Callee p f) (commands b) ≡ []
 kept_callees p f b h =
     callees p f b
-    ∙ none_from_all (callee_fault p f) (IsKnown p) (calls b)
+    ∙ none_from_all (callee_fault p f) (IsKnown p) (call_sites b)
     (λ site e. none_where (not (is_among (function_names p) site.function)) (UnknownFunction f site.function) (false_not (is_among (function_names p) site.function) (among_contains (function_names p) site.function e))) h
 
 -- calls that fit
@@ -163,7 +163,7 @@ arity_own : (p : List Procedure) (f : Text) (c : Command) → command_faults of_
 arity_own p f (Calls xs g es) = sym (append-nil (where_true (has_misfit p g (length es) (length xs)) (WrongArity f g)))
 arity_own p f _ = refl
 
-arities : (p : List Procedure) (f : Text) (b : Command) → flat_map (command_faults of_command.Arity p f) (commands b) ≡ flat_map (arity_fault p f) (calls b)
+arities : (p : List Procedure) (f : Text) (b : Command) → flat_map (command_faults of_command.Arity p f) (commands b) ≡ flat_map (arity_fault p f) (call_sites b)
 arities p f b = spread (command_faults of_command.Arity p f) own_calls (arity_fault p f) (arity_own p f) (commands b) ∙ ap (flat_map (arity_fault p f)) (sym (calls_listed b))
 
 abbrev pub AllFit : List Procedure → CallSite → Type 0
@@ -203,16 +203,16 @@ kept_misfit (g ∷ gs) site h =
     and_from (a == length g.params) (t == length g.results) (number_same a (length g.params) fit.0) (number_same t (length g.results) fit.1)))
     (kept_misfit gs site (All-tail (λ (g : Procedure). g.name ≡ site.function → Fits site g) g gs h))
 
-pub arities_kept : (p : List Procedure) (f : Text) (b : Command) → flat_map (command_faults of_command.Arity p f) (commands b) ≡ [] → All (AllFit p) (calls b)
+pub arities_kept : (p : List Procedure) (f : Text) (b : Command) → flat_map (command_faults of_command.Arity p f) (commands b) ≡ [] → All (AllFit p) (call_sites b)
 arities_kept p f b h =
-    all_from_none (arity_fault p f) (AllFit p) (calls b)
+    all_from_none (arity_fault p f) (AllFit p) (call_sites b)
     (λ site e. misfit_kept p site (where_none (has_misfit p site.function (length site.arguments) (length site.targets)) (WrongArity f site.function) e))
     (sym (arities p f b) ∙ h)
 
-pub kept_arities : (p : List Procedure) (f : Text) (b : Command) → All (AllFit p) (calls b) → flat_map (command_faults of_command.Arity p f) (commands b) ≡ []
+pub kept_arities : (p : List Procedure) (f : Text) (b : Command) → All (AllFit p) (call_sites b) → flat_map (command_faults of_command.Arity p f) (commands b) ≡ []
 kept_arities p f b h =
     arities p f b
-    ∙ none_from_all (arity_fault p f) (AllFit p) (calls b)
+    ∙ none_from_all (arity_fault p f) (AllFit p) (call_sites b)
     (λ site e. none_where (has_misfit p site.function (length site.arguments) (length site.targets)) (WrongArity f site.function) (kept_misfit p site e)) h
 
 -- calls whose targets are different
@@ -223,20 +223,20 @@ target_own : (p : List Procedure) (f : Text) (c : Command) → command_faults of
 target_own p f (Calls xs g es) = sym (append-nil (map (DuplicateTarget f) (repeated xs)))
 target_own p f _ = refl
 
-targets : (p : List Procedure) (f : Text) (b : Command) → flat_map (command_faults of_command.Targets p f) (commands b) ≡ flat_map (target_fault f) (calls b)
+targets : (p : List Procedure) (f : Text) (b : Command) → flat_map (command_faults of_command.Targets p f) (commands b) ≡ flat_map (target_fault f) (call_sites b)
 targets p f b = spread (command_faults of_command.Targets p f) own_calls (target_fault f) (target_own p f) (commands b) ∙ ap (flat_map (target_fault f)) (sym (calls_listed b))
 
 abbrev pub HasTargets : CallSite → Type 0
 HasTargets site = AreDistinct site.targets
 
-pub targets_kept : (p : List Procedure) (f : Text) (b : Command) → flat_map (command_faults of_command.Targets p f) (commands b) ≡ [] → All HasTargets (calls b)
+pub targets_kept : (p : List Procedure) (f : Text) (b : Command) → flat_map (command_faults of_command.Targets p f) (commands b) ≡ [] → All HasTargets (call_sites b)
 targets_kept p f b h =
-    all_from_none (target_fault f) HasTargets (calls b) (λ site e. distinct_kept site.targets (map_none (DuplicateTarget f) (repeated site.targets) e)) (sym (targets p f b) ∙ h)
+    all_from_none (target_fault f) HasTargets (call_sites b) (λ site e. distinct_kept site.targets (map_none (DuplicateTarget f) (repeated site.targets) e)) (sym (targets p f b) ∙ h)
 
-pub kept_targets : (p : List Procedure) (f : Text) (b : Command) → All HasTargets (calls b) → flat_map (command_faults of_command.Targets p f) (commands b) ≡ []
+pub kept_targets : (p : List Procedure) (f : Text) (b : Command) → All HasTargets (call_sites b) → flat_map (command_faults of_command.Targets p f) (commands b) ≡ []
 kept_targets p f b h =
     targets p f b
-    ∙ none_from_all (target_fault f) HasTargets (calls b) (λ site e. none_map (DuplicateTarget f) (repeated site.targets) (kept_distinct site.targets e)) h
+    ∙ none_from_all (target_fault f) HasTargets (call_sites b) (λ site e. none_map (DuplicateTarget f) (repeated site.targets) (kept_distinct site.targets e)) h
 
 -- accesses
 abbrev access_fault : Text → AccessSite → List CheckFault
@@ -246,7 +246,7 @@ access_own : (p : List Procedure) (f : Text) (c : Command) → command_faults of
 access_own p f (Interacts xs k es) = sym (append-nil (where_true (not (has_shape k (length xs) (length es))) (BadIo f)))
 access_own p f _ = refl
 
-shapes : (p : List Procedure) (f : Text) (b : Command) → flat_map (command_faults of_command.Access p f) (commands b) ≡ flat_map (access_fault f) (accesses b)
+shapes : (p : List Procedure) (f : Text) (b : Command) → flat_map (command_faults of_command.Access p f) (commands b) ≡ flat_map (access_fault f) (access_sites b)
 shapes p f b = spread (command_faults of_command.Access p f) own_accesses (access_fault f) (access_own p f) (commands b) ∙ ap (flat_map (access_fault f)) (sym (accesses_listed b))
 
 shape_is : (k : Action) (m n : ℕ) → has_shape k m n ≡ true → HasShape k m n
@@ -257,16 +257,16 @@ is_shape : (k : Action) (m n : ℕ) → HasShape k m n → has_shape k m n ≡ t
 is_shape Read m n h = and_from (m == 1) (n == 1) (number_same m 1 h.0) (number_same n 1 h.1)
 is_shape Write m n h = and_from (m == 0) (n == 2) (number_same m 0 h.0) (number_same n 2 h.1)
 
-pub shapes_kept : (p : List Procedure) (f : Text) (b : Command) → flat_map (command_faults of_command.Access p f) (commands b) ≡ [] → All IsGoodAccess (accesses b)
+pub shapes_kept : (p : List Procedure) (f : Text) (b : Command) → flat_map (command_faults of_command.Access p f) (commands b) ≡ [] → All IsGoodAccess (access_sites b)
 shapes_kept p f b h =
-    all_from_none (access_fault f) IsGoodAccess (accesses b)
+    all_from_none (access_fault f) IsGoodAccess (access_sites b)
     (λ site e. shape_is site.action (length site.targets) (length site.arguments)
     (not_false (has_shape site.action (length site.targets) (length site.arguments)) (where_none (not (has_shape site.action (length site.targets) (length site.arguments))) (BadIo f) e)))
     (sym (shapes p f b) ∙ h)
 
-pub kept_shapes : (p : List Procedure) (f : Text) (b : Command) → All IsGoodAccess (accesses b) → flat_map (command_faults of_command.Access p f) (commands b) ≡ []
+pub kept_shapes : (p : List Procedure) (f : Text) (b : Command) → All IsGoodAccess (access_sites b) → flat_map (command_faults of_command.Access p f) (commands b) ≡ []
 kept_shapes p f b h =
     shapes p f b
-    ∙ none_from_all (access_fault f) IsGoodAccess (accesses b)
+    ∙ none_from_all (access_fault f) IsGoodAccess (access_sites b)
     (λ site e. none_where (not (has_shape site.action (length site.targets) (length site.arguments))) (BadIo f)
     (false_not (has_shape site.action (length site.targets) (length site.arguments)) (is_shape site.action (length site.targets) (length site.arguments) e))) h

@@ -6,7 +6,7 @@ use Rattle.lb_syntax.specs.declared.limits.TheConstants.{MOST_FRAME, MOST_FUNCTI
 use Rattle.lb_syntax.specs.Names.{is_among, AreDistinct}
 use Rattle.lb_syntax.specs.Tree.{Procedure}
 use Rattle.lb_syntax.specs.Needs.{code_need, frame_need, sites}
-use Rattle.lb_syntax.specs.Calls.{calls, accesses}
+use Rattle.lb_syntax.specs.Calls.{call_sites, access_sites}
 use Rattle.lb_syntax.specs.Rules.{function_names, HasEntryShape, IsBlockSize, IsGoodAccess, KeepsFunctionRules, KeepsRules}
 use Rattle.lb_check.specs.declared.fault.CheckFault.{CheckFault}
 use Rattle.lb_check.specs.declared.fault.CheckFault.TheVariants.{TooManyFunctions, DuplicateFunction, NoInit, NoLoop, CodeNeed}
@@ -40,10 +40,10 @@ module _ (p : List Procedure) where
       let entry_all = all_from_none (function_faults of_function.Entry) HasEntryShape p entry_kept entry in
       let counts_all = all_from_none (function_faults of_function.Counts) HasCounts p counts_kept counts in
       let sizes_all = all_from_none (in_body of_command.BlockSize) (λ f. All IsBlockSize (sites f.body)) p (λ f. sizes_kept p f.name f.body) sizes in
-      let known_all = all_from_none (in_body of_command.Callee) (λ f. All (IsKnown p) (calls f.body)) p (λ f. callees_kept p f.name f.body) known in
-      let fit_all = all_from_none (in_body of_command.Arity) (λ f. All (AllFit p) (calls f.body)) p (λ f. arities_kept p f.name f.body) fit in
-      let apart_all = all_from_none (in_body of_command.Targets) (λ f. All HasTargets (calls f.body)) p (λ f. targets_kept p f.name f.body) apart in
-      let shapes_all = all_from_none (in_body of_command.Access) (λ f. All IsGoodAccess (accesses f.body)) p (λ f. shapes_kept p f.name f.body) shapes in
+      let known_all = all_from_none (in_body of_command.Callee) (λ f. All (IsKnown p) (call_sites f.body)) p (λ f. callees_kept p f.name f.body) known in
+      let fit_all = all_from_none (in_body of_command.Arity) (λ f. All (AllFit p) (call_sites f.body)) p (λ f. arities_kept p f.name f.body) fit in
+      let apart_all = all_from_none (in_body of_command.Targets) (λ f. All HasTargets (call_sites f.body)) p (λ f. targets_kept p f.name f.body) apart in
+      let shapes_all = all_from_none (in_body of_command.Access) (λ f. All IsGoodAccess (access_sites f.body)) p (λ f. shapes_kept p f.name f.body) shapes in
       record {
         few_functions = over MOST_FUNCTIONS (length p) (where_none (nat_lt MOST_FUNCTIONS (length p)) (TooManyFunctions (length p)) count);
         distinct_functions = distinct_kept (function_names p) (map_none (λ x. DuplicateFunction x) (repeated (function_names p)) names);

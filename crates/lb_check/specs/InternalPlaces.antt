@@ -3,7 +3,7 @@ use Rattle.std.specs.Prelude.{ℕ, ◌+◌, List, [], ◌∷◌, map, flat_map, 
 use Rattle.std.specs.Str.{bytes_eq}
 use Rattle.lb_syntax.specs.Names.{Text}
 use Rattle.lb_syntax.specs.Tree.{Command, Procedure}
-use Rattle.lb_syntax.specs.Calls.{calls}
+use Rattle.lb_syntax.specs.Calls.{call_sites}
 
 -- the places of the functions with this name, where the first of them is at place k
 abbrev pub places_from : ℕ → List Procedure → Text → List ℕ
@@ -12,7 +12,7 @@ places_from k (f ∷ fs) name = if bytes_eq f.name name then k ∷ places_from (
 
 -- the places of the functions that a command or a block calls, call by call
 abbrev pub called : List Procedure → Command → List ℕ
-called p c = flat_map (λ site. places_from 0 p site.function) (calls c)
+called p c = flat_map (λ site. places_from 0 p site.function) (call_sites c)
 
 -- for each function the places of those that it calls
 abbrev pub call_graph : List Procedure → List (List ℕ)

@@ -15,7 +15,7 @@ use Rattle.lb_spelling.proofs.Words.{chosen, false_from, number_decimal}
 use Rattle.lb_spelling.proofs.Lexing.{Head, head, empty_lexeme, begins_front}
 use Rattle.lb_spelling.proofs.Running.{run_step, run_fail, slash_step, comment_step, count_is}
 use Rattle.lb_spelling.proofs.Back.{behind_gap}
-use Rattle.lb_scan.specs.declared.stop.Stop.{Stop}
+use Rattle.lb_scan.specs.declared.syntax_error.SyntaxError.{SyntaxError}
 use Rattle.lb_scan.specs.InternalScanning.{Skips, BeginsToken, lex_of, begins_with_digit, IsStuckIn, IsSpelled, IsTaken, ReadsNumber, ReadsWord}
 use Rattle.lb_scan.proofs.Numbers.{none_fixed, begun_first}
 use Rattle.lb_scan.proofs.Marks.{no_word, no_slash}
@@ -68,8 +68,8 @@ begun_at x n s b after is t g room k = subst (λ (u : List ℕ). run most_bracke
     (run_step most_brackets b after Between n (x ∷ k) (Part (b ∷ [])) (open_after n b) (x ∷ k) (rw (not_blank b after (subst (λ (u : List ℕ). BeginsToken u) is t)) (rw g (rw (le-leb _ _ room) refl))))
 
 -- a fault behind the first byte is the fault of the whole
-pub stuck_token : (x : Symbol) (n : ℕ) (s : List ℕ) (b : ℕ) (after : List ℕ) (stop : Stop) → s ≡ b ∷ after → BeginsToken s → Begins x b true → open_after n b ≤ most_brackets → IsStuckIn x s stop → Faults n x s stop.kind stop.left
-stuck_token x n s b after stop is t g room p k = begun_at x n s b after is t g room k ∙ p (open_after n b) k
+pub stuck_token : (x : Symbol) (n : ℕ) (s : List ℕ) (b : ℕ) (after : List ℕ) (error : SyntaxError) → s ≡ b ∷ after → BeginsToken s → Begins x b true → open_after n b ≤ most_brackets → IsStuckIn x s error → Faults n x s error.kind error.left
+stuck_token x n s b after error is t g room p k = begun_at x n s b after is t g room k ∙ p (open_after n b) k
 
 -- ---- the token
 

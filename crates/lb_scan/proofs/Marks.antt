@@ -19,7 +19,7 @@ use Rattle.lb_spelling.proofs.Words.{false_from, same_is, same_itself, hex_more,
 use Rattle.lb_spelling.proofs.Lexing.{number_is, any_number}
 use Rattle.lb_spelling.proofs.Wide.{value_hex, value_decimal}
 use Rattle.lb_spelling.proofs.Running.{run_step, run_fail, word_runs}
-use Rattle.lb_scan.specs.declared.stop.Stop.{Stop}
+use Rattle.lb_scan.specs.declared.syntax_error.SyntaxError.{SyntaxError}
 use Rattle.lb_scan.specs.InternalScanning.{EndsRun, Digits, ReadsDigits, DigitsFault, NoDigitFault, ReadsNumber, NumberFault, IsStuckIn}
 use Rattle.lb_scan.proofs.Numbers.{none_fixed, begun_first}
 
@@ -161,29 +161,29 @@ hex_mark_hex = refl
 told : (x : Symbol) (s : List ℕ) (kind kind' : TextKind) (left left' : ℕ) → kind ≡ kind' → left' ≡ left → IsStuckIn x s (record { kind = kind; left = left }) → (n : ℕ) (k : Stack) → run most_brackets (drop 1 s) (Part (take 1 s)) n (x ∷ k) ≡ Stuck kind' left'
 told x s kind kind' left left' e f p n k = p n k ∙ (ap (λ (c : TextKind). Stuck c left) e ∙ ap (λ (l : ℕ). Stuck kind' l) (sym f))
 
-pub decimal_fault : (s : List ℕ) (stop : Stop) → is_hex s ≡ false → DigitsFault 10 s stop → NumberFault s stop
-decimal_fault s stop h p x t =
+pub decimal_fault : (s : List ℕ) (error : SyntaxError) → is_hex s ≡ false → DigitsFault 10 s error → NumberFault s error
+decimal_fault s error h p x t =
     let d = p.digits in
     let head = digit_head s p.before (p.byte ∷ p.more) d in
     go head.0 head.1 head.3 (subst (λ (w : List ℕ). Digits 10 s w (p.byte ∷ p.more)) head.2 d) (subst (λ (w : List ℕ). is_based 10 (w ++ p.byte ∷ []) ≡ false) head.2 (based_fails 10 p.before p.byte p.kind)) where
-      go : (a : ℕ) (u : List ℕ) → is_digit a 10 ≡ true → Digits 10 s (a ∷ u) (p.byte ∷ p.more) → is_based 10 (a ∷ u ++ p.byte ∷ []) ≡ false → IsStuckIn x s stop
+      go : (a : ℕ) (u : List ℕ) → is_digit a 10 ≡ true → Digits 10 s (a ∷ u) (p.byte ∷ p.more) → is_based 10 (a ∷ u ++ p.byte ∷ []) ≡ false → IsStuckIn x s error
       go a u da d wide =
           let regroup : s ≡ (a ∷ u ++ p.byte ∷ []) ++ p.more = d.parts ∙ sym (append_assoc (a ∷ u) (p.byte ∷ []) p.more) in
           let longer : is_hex (a ∷ u ++ p.byte ∷ []) ≡ false = not_hex_front (a ∷ u ++ p.byte ∷ []) p.more (ap is_hex (sym regroup) ∙ h) in
           let front : is_hex (a ∷ u) ≡ false = not_hex_front (a ∷ u) (p.byte ∷ []) longer in
           let b : is_based 10 (a ∷ u) ≡ true = based 10 s (a ∷ u) (p.byte ∷ p.more) d in
           let none : begins_number (a ∷ u ++ p.byte ∷ []) ≡ false = no_number_more (a ∷ u ++ p.byte ∷ []) (number_decimal (a ∷ u ++ p.byte ∷ []) longer ∙ wide) (λ e. true≢false (sym hex_mark_hex ∙ (ap is_hex e ∙ longer))) in
-          told x s (kind_in (a ∷ u) p.byte) stop.kind (length (p.byte ∷ p.more)) stop.left (kind_number a u p.byte 10 stop.kind da (number_decimal (a ∷ u) front ∙ b) (digit_decimal (a ∷ u) p.byte front) p.kind) p.left
+          told x s (kind_in (a ∷ u) p.byte) error.kind (length (p.byte ∷ p.more)) error.left (kind_number a u p.byte 10 error.kind da (number_decimal (a ∷ u) front ∙ b) (digit_decimal (a ∷ u) p.byte front) p.kind) p.left
           (subst (λ (w : List ℕ). IsStuckIn x w (record { kind = kind_in (a ∷ u) p.byte; left = length (p.byte ∷ p.more) })) (sym d.parts) (stuck_number a u _ p.byte p.more x t (decimal_lexeme (a ∷ u) front b) da p.in_run none))
 
-hex_fault : (s : List ℕ) (stop : Stop) → DigitsFault 16 s stop → NumberFault (48 ∷ 120 ∷ s) stop
-hex_fault s stop p x t =
+hex_fault : (s : List ℕ) (error : SyntaxError) → DigitsFault 16 s error → NumberFault (48 ∷ 120 ∷ s) error
+hex_fault s error p x t =
     let d = p.digits in
     let b : is_based 16 p.before ≡ true = based 16 s p.before (p.byte ∷ p.more) d in
     let none : begins_number (48 ∷ 120 ∷ p.before ++ p.byte ∷ []) ≡ false = no_number_more (48 ∷ 120 ∷ p.before ++ p.byte ∷ []) (number_hex (p.before ++ p.byte ∷ []) ∙ based_fails 16 p.before p.byte p.kind) (λ e.
     let l : length {A = ℕ} hex_mark ≡ length (48 ∷ 120 ∷ p.before ++ p.byte ∷ []) = ap (λ (w : List ℕ). length w) e in
     let m : length (p.before ++ p.byte ∷ []) ≡ length p.before + 1 = length-append p.before (p.byte ∷ []) in omega arith) in
-    told x (48 ∷ 120 ∷ s) (kind_in (48 ∷ 120 ∷ p.before) p.byte) stop.kind (length (p.byte ∷ p.more)) stop.left (kind_number 48 (120 ∷ p.before) p.byte 16 stop.kind refl (number_hex p.before ∙ b) (digit_hex p.before p.byte) p.kind) p.left
+    told x (48 ∷ 120 ∷ s) (kind_in (48 ∷ 120 ∷ p.before) p.byte) error.kind (length (p.byte ∷ p.more)) error.left (kind_number 48 (120 ∷ p.before) p.byte 16 error.kind refl (number_hex p.before ∙ b) (digit_hex p.before p.byte) p.kind) p.left
     (subst (λ (w : List ℕ). IsStuckIn x (48 ∷ 120 ∷ w) (record { kind = kind_in (48 ∷ 120 ∷ p.before) p.byte; left = length (p.byte ∷ p.more) })) (sym d.parts) (stuck_number 48 (120 ∷ p.before) _ p.byte p.more x t (hex_lexeme p.before b) refl p.in_run none))
 
 -- ---- a mark without digits
@@ -213,10 +213,10 @@ mark_taken : (x : Symbol) (k : Stack) → taken (x ∷ k) hex_mark ≡ None
 unfolding taken
 mark_taken x k = rw mark_lexeme refl
 
-pub marked_fault : (s : List ℕ) (stop : Stop) → NoDigitFault s stop → NumberFault (48 ∷ 120 ∷ s) stop
-marked_fault [] stop p x t n k =
+pub marked_fault : (s : List ℕ) (error : SyntaxError) → NoDigitFault s error → NumberFault (48 ∷ 120 ∷ s) error
+marked_fault [] error p x t n k =
     run_step most_brackets 120 [] (Part (48 ∷ [])) n (x ∷ k) (Part hex_mark) n (x ∷ k) (mark_step x k n t) ∙ (ap (λ (o : Option Stack). ended (has_ended o)) (mark_taken x k) ∙ rw (p.0, p.1) refl)
-marked_fault (b ∷ s) stop p x t n k =
+marked_fault (b ∷ s) error p x t n k =
     run_step most_brackets 120 (b ∷ s) (Part (48 ∷ [])) n (x ∷ k) (Part hex_mark) n (x ∷ k) (mark_step x k n t) ∙ (run_fail most_brackets b s (Part hex_mark) n (x ∷ k) (unexpected b) fails ∙ rw (p.1, p.2) refl) where
       one : is_based 16 (b ∷ []) ≡ false
       one = and_left _ _ (and_left _ true p.0)
@@ -227,6 +227,6 @@ marked_fault (b ∷ s) stop p x t n k =
         | inr w ↦ (let j : joins hex_mark b ≡ false = run_ends 48 (120 ∷ []) (b ∷ s) refl w in rw j (rw (mark_taken x k) refl))
       ]
 
-pub hexadecimal_fault : (s : List ℕ) (stop : Stop) → NoDigitFault s stop ⊎ DigitsFault 16 s stop → NumberFault (48 ∷ 120 ∷ s) stop
-hexadecimal_fault s stop (inl p) = marked_fault s stop p
-hexadecimal_fault s stop (inr p) = hex_fault s stop p
+pub hexadecimal_fault : (s : List ℕ) (error : SyntaxError) → NoDigitFault s error ⊎ DigitsFault 16 s error → NumberFault (48 ∷ 120 ∷ s) error
+hexadecimal_fault s error (inl p) = marked_fault s error p
+hexadecimal_fault s error (inr p) = hex_fault s error p

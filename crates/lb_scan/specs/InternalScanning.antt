@@ -9,7 +9,7 @@ use Rattle.lb_spelling.specs.declared.fault.TextKind.TheVariants.{Ended, NumberT
 use Rattle.lb_spelling.specs.declared.symbol.Symbol.{Symbol}
 use Rattle.lb_spelling.specs.InternalMachine.{Stack, Lex, Between, InComment, Part, Stuck, run, next, unexpected}
 use Rattle.lb_spelling.specs.Tokens.{Token, Numeral, Mode, Outside, Slash, Comment, gap, is_blank, is_word_byte, lexeme, joins, IsLongest}
-use Rattle.lb_scan.specs.declared.stop.Stop.{Stop}
+use Rattle.lb_scan.specs.declared.syntax_error.SyntaxError.{SyntaxError}
 
 -- ---- blanks and comments
 
@@ -33,8 +33,8 @@ BeginsToken (b ∷ c ∷ s) = (is_blank b ≡ false) × ((b == 47) && (c == 47) 
 -- ---- faults
 
 -- behind the first byte of a token that x expects, s has this fault, whatever is to come behind the token
-abbrev pub IsStuckIn : Symbol → Text → Stop → Type 0
-IsStuckIn x s stop = (n : ℕ) (k : Stack) → run most_brackets (drop 1 s) (Part (take 1 s)) n (x ∷ k) ≡ Stuck stop.kind stop.left
+abbrev pub IsStuckIn : Symbol → Text → SyntaxError → Type 0
+IsStuckIn x s error = (n : ℕ) (k : Stack) → run most_brackets (drop 1 s) (Part (take 1 s)) n (x ∷ k) ≡ Stuck error.kind error.left
 
 -- ---- numbers
 
@@ -63,19 +63,19 @@ pub record ReadsDigits (radix : ℕ) (s : Text) (value : ℕ) (rest : Text) : Ty
   pub ends : EndsRun rest
 
 -- a letter, a digit or an underscore stands behind digits, and makes no number with them
-pub record DigitsFault (radix : ℕ) (s : Text) (stop : Stop) : Type 0 where
+pub record DigitsFault (radix : ℕ) (s : Text) (error : SyntaxError) : Type 0 where
   pub before : Text
   pub byte : ℕ
   pub more : Text
   pub digits : Digits radix s before (byte ∷ more)
   pub in_run : is_word_byte byte ≡ true
-  pub left : stop.left ≡ length (byte ∷ more)
-  pub kind : ((is_digit byte radix ≡ false) × (stop.kind ≡ unexpected byte)) ⊎ ((is_digit byte radix ≡ true) × (2 ^ 32 ≤ digits_value radix (before ++ byte ∷ [])) × (stop.kind ≡ NumberTooWide))
+  pub left : error.left ≡ length (byte ∷ more)
+  pub kind : ((is_digit byte radix ≡ false) × (error.kind ≡ unexpected byte)) ⊎ ((is_digit byte radix ≡ true) × (2 ^ 32 ≤ digits_value radix (before ++ byte ∷ [])) × (error.kind ≡ NumberTooWide))
 
 -- no digit stands at the front
-abbrev pub NoDigitFault : Text → Stop → Type 0
-NoDigitFault [] stop = (stop.kind ≡ Ended) × (stop.left ≡ 0)
-NoDigitFault (b ∷ s) stop = (is_digit b 16 ≡ false) × (stop.kind ≡ unexpected b) × (stop.left ≡ length (b ∷ s))
+abbrev pub NoDigitFault : Text → SyntaxError → Type 0
+NoDigitFault [] error = (error.kind ≡ Ended) × (error.left ≡ 0)
+NoDigitFault (b ∷ s) error = (is_digit b 16 ≡ false) × (error.kind ≡ unexpected b) × (error.left ≡ length (b ∷ s))
 
 -- the number stands at the front of s, before rest
 pub record ReadsNumber (s : Text) (value : ℕ) (rest : Text) : Type 0 where
@@ -85,8 +85,8 @@ pub record ReadsNumber (s : Text) (value : ℕ) (rest : Text) : Type 0 where
   pub longest : IsLongest word rest
 
 -- wherever a number is expected
-abbrev pub NumberFault : Text → Stop → Type 0
-NumberFault s stop = (x : Symbol) → is_some (next x (Numeral 0)) ≡ true → IsStuckIn x s stop
+abbrev pub NumberFault : Text → SyntaxError → Type 0
+NumberFault s error = (x : Symbol) → is_some (next x (Numeral 0)) ≡ true → IsStuckIn x s error
 
 -- ---- words and signs
 

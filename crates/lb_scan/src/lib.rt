@@ -4,11 +4,11 @@
 mod bytes;
 mod gap;
 mod number;
+mod scanner;
 mod spelling;
-mod stop;
-mod tokens;
-mod word;
+mod syntax_error;
+mod token;
 
-pub use stop::Stop;
-pub use tokens::{scan, scan_or_end};
-pub use word::Word;
+pub use scanner::{scan, scan_or_end};
+pub use syntax_error::SyntaxError;
+pub use token::Token;

@@ -5,14 +5,14 @@ ghost use Rattle.lb_scan.specs.InternalScanning.{begins_with_digit, ReadsDigits,
 
 use crate::bytes::{is_word_byte, unexpected};
 use crate::gap::first;
-use crate::stop::Stop;
+use crate::syntax_error::SyntaxError;
 use lb_spelling::TextKind;
 
 /// The number at the front, which begins with a digit, and the bytes behind it.
-pub fn number(bytes: &[u8]) -> Result<(u32, &[u8]), Stop>
+pub fn number(bytes: &[u8]) -> Result<(u32, &[u8]), SyntaxError>
     requires { begins_with_digit 10 bytes.now ≡ true }
     ensures found { IfOk result (λ r. ReadsNumber bytes.now r.0 r.1.now) }
-    ensures fault { IfErr result (λ stop. NumberFault bytes.now stop) }
+    ensures fault { IfErr result (λ error. NumberFault bytes.now error) }
 {
     match behind_mark(bytes) {
         None => digits(10, bytes),
@@ -28,18 +28,18 @@ fn behind_mark(bytes: &[u8]) -> Option<&[u8]>
 }
 
 // The number behind its mark, which has one digit or more.
-fn hexadecimal(bytes: &[u8]) -> Result<(u32, &[u8]), Stop>
+fn hexadecimal(bytes: &[u8]) -> Result<(u32, &[u8]), SyntaxError>
     ensures found { IfOk result (λ r. ReadsDigits 16 bytes.now r.0 r.1.now) }
-    ensures fault { IfErr result (λ stop. NoDigitFault bytes.now stop ⊎ DigitsFault 16 bytes.now stop) }
+    ensures fault { IfErr result (λ error. NoDigitFault bytes.now error ⊎ DigitsFault 16 bytes.now error) }
 {
     let Some((b, _)) = first(bytes) else {
-        return Err(Stop {
+        return Err(SyntaxError {
             kind: TextKind::Ended,
             left: 0,
         });
     };
     if !(b as char).is_digit(16) {
-        return Err(Stop {
+        return Err(SyntaxError {
             kind: unexpected(b),
             left: bytes.len(),
         });
@@ -48,12 +48,12 @@ fn hexadecimal(bytes: &[u8]) -> Result<(u32, &[u8]), Stop>
 }
 
 // The number of these digits, as many as there are, and the bytes behind them.
-fn digits(radix: u32, bytes: &[u8]) -> Result<(u32, &[u8]), Stop>
+fn digits(radix: u32, bytes: &[u8]) -> Result<(u32, &[u8]), SyntaxError>
     requires low { 2 ≤ radix }
     requires high { radix ≤ 16 }
     requires some { begins_with_digit radix bytes.now ≡ true }
     ensures found { IfOk result (λ r. ReadsDigits radix bytes.now r.0 r.1.now) }
-    ensures fault { IfErr result (λ stop. DigitsFault radix bytes.now stop) }
+    ensures fault { IfErr result (λ error. DigitsFault radix bytes.now error) }
 {
     let mut value: u32 = 0;
     let mut rest = bytes;
@@ -62,13 +62,13 @@ fn digits(radix: u32, bytes: &[u8]) -> Result<(u32, &[u8]), Stop>
             return Ok((value, rest));
         }
         let Some(digit) = (b as char).to_digit(radix) else {
-            return Err(Stop {
+            return Err(SyntaxError {
                 kind: unexpected(b),
                 left: rest.len(),
             });
         };
         let Some(longer) = with_digit(value, radix, digit) else {
-            return Err(Stop {
+            return Err(SyntaxError {
                 kind: TextKind::NumberTooWide,
                 left: rest.len(),
             });

@@ -4,13 +4,13 @@ ghost use Rattle.std.specs.List.{list_all};
 ghost use Rattle.lb_syntax.specs.Names.{starts_name};
 ghost use Rattle.lb_spelling.specs.Tokens as tokens;
 ghost use Rattle.lb_spelling.specs.InternalMachine as machine;
-ghost use Rattle.lb_scan.specs.Words.{token_of_option};
+ghost use Rattle.lb_scan.specs.Tokens.{token_of_option};
 ghost use Rattle.lb_scan.specs.InternalScanning.{IsSpelled, begins_with_digit, BeginsToken, IsStuckIn};
 
 use crate::bytes::{begins_with, is_name_start, is_word_byte, unexpected};
 use crate::gap::first;
-use crate::stop::Stop;
-use crate::word::{Word, begins_fixed, begins_taken, fixed, takes};
+use crate::syntax_error::SyntaxError;
+use crate::token::{Token, begins_fixed, begins_taken, fixed, takes};
 use lb_spelling::{Symbol, TextKind};
 
 /// The length of the spelling at the front; 33 for one that is too long for a name.
@@ -52,14 +52,14 @@ fn are_in_run(first: u8, b: u8) -> bool
 }
 
 /// The word or sign of this spelling.
-pub fn lexeme(spelling: &[u8]) -> Option<Word>
+pub fn lexeme(spelling: &[u8]) -> Option<Token>
     requires { begins_with_digit 10 spelling.now ≡ false }
     ensures { token_of_option result ≡ tokens.lexeme spelling.now }
 {
     match fixed(spelling) {
-        Some(word) => Some(word),
+        Some(token) => Some(token),
         None => if is_word(spelling) {
-            Some(Word::Name(spelling))
+            Some(Token::Name(spelling))
         } else {
             None
         },
@@ -110,11 +110,11 @@ pub fn begins(expected: Symbol, bytes: &[u8]) -> bool
 fn begins_name(expected: Symbol, bytes: &[u8]) -> bool
     ensures { result ≡ (is_some (machine.next expected (tokens.Named [])) && tokens.is_word bytes.now) }
 {
-    takes(expected, &Word::Name(b"")) && is_word(bytes)
+    takes(expected, &Token::Name(b"")) && is_word(bytes)
 }
 
 /// Where a spelling of this length goes wrong, with which no token that `expected` takes stands at the front.
-pub fn stop_in(expected: Symbol, bytes: &[u8], len: usize) -> Stop
+pub fn syntax_error_in(expected: Symbol, bytes: &[u8], len: usize) -> SyntaxError
     requires spelled { IsSpelled bytes.now len }
     requires token { BeginsToken bytes.now }
     requires no_digit { begins_with_digit 10 bytes.now ≡ false }
@@ -124,18 +124,18 @@ pub fn stop_in(expected: Symbol, bytes: &[u8], len: usize) -> Stop
 {
     for i in 1..len {
         if !begins(expected, &bytes[..i + 1]) {
-            return Stop {
+            return SyntaxError {
                 kind: kind_in(&bytes[..i], bytes[i]),
                 left: bytes.len() - i,
             };
         }
     }
     match first(&bytes[len..]) {
-        None => Stop {
+        None => SyntaxError {
             kind: TextKind::Ended,
             left: 0,
         },
-        Some((b, _)) => Stop {
+        Some((b, _)) => SyntaxError {
             kind: unexpected(b),
             left: bytes.len() - len,
         },

@@ -9,8 +9,7 @@ use Rattle.lb_syntax.proofs.DistinctLemmas.{bytes_eq-same}
 use Rattle.lb_syntax.specs.Tree.{Procedure, Term, Variable}
 use Rattle.lb_syntax.specs.Tree.{Command, Skips, Sets, Unsets, Stores, Allocates, Chooses, Repeats, Calls, Interacts, Ends, Then}
 use Rattle.lb_syntax.specs.Needs.{sites, frame_need}
-use Rattle.lb_syntax.specs.Calls.{CallSite, callees, IsCallPath, path_need}
-use Rattle.lb_syntax.specs.Calls as calls_in
+use Rattle.lb_syntax.specs.Calls.{CallSite, call_sites, callees, IsCallPath, path_need}
 use Rattle.lb_syntax.specs.Rules.{KeepsRules}
 use Rattle.lb_syntax.specs.Layouts.{IsFrameOf, AreFramesOf}
 use Rattle.lb_syntax.specs.declared.layout.FrameLayout.{FrameLayout}
@@ -112,17 +111,17 @@ Within P _ = Unit {0}
 
 -- the names that a command calls
 abbrev names : Command → List Text
-names c = map (λ (site : CallSite). site.function) (calls_in.calls c)
+names c = map (λ (site : CallSite). site.function) (call_sites c)
 
 map_both : (xs ys : List CallSite) → map (λ (site : CallSite). site.function) (xs ++ ys) ≡ map (λ (site : CallSite). site.function) xs ++ map (λ (site : CallSite). site.function) ys
 map_both [] ys = refl
 map_both (x ∷ xs) ys = ap (λ ns. x.function ∷ ns) (map_both xs ys)
 
-left_of : (c b : Command) (x : Text) → Contains (names c) x → Contains (map (λ (site : CallSite). site.function) (calls_in.calls c ++ calls_in.calls b)) x
-left_of c b x h = subst (λ ns. Contains ns x) (sym (map_both (calls_in.calls c) (calls_in.calls b))) (Contains-append_left (names c) (names b) x h)
+left_of : (c b : Command) (x : Text) → Contains (names c) x → Contains (map (λ (site : CallSite). site.function) (call_sites c ++ call_sites b)) x
+left_of c b x h = subst (λ ns. Contains ns x) (sym (map_both (call_sites c) (call_sites b))) (Contains-append_left (names c) (names b) x h)
 
-right_of : (c b : Command) (x : Text) → Contains (names b) x → Contains (map (λ (site : CallSite). site.function) (calls_in.calls c ++ calls_in.calls b)) x
-right_of c b x h = subst (λ ns. Contains ns x) (sym (map_both (calls_in.calls c) (calls_in.calls b))) (Contains-append_right (names c) (names b) x h)
+right_of : (c b : Command) (x : Text) → Contains (names b) x → Contains (map (λ (site : CallSite). site.function) (call_sites c ++ call_sites b)) x
+right_of c b x h = subst (λ ns. Contains ns x) (sym (map_both (call_sites c) (call_sites b))) (Contains-append_right (names c) (names b) x h)
 
 within : (P : Text → Type 0) (c : Command) → ((x : Text) → Contains (names c) x → P x) → Within P c
 within P (Allocates n x b) h = within P b h

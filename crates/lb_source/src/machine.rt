@@ -250,8 +250,8 @@ fn result_values(
     Ok(Ok(vs))
 }
 
-/// Goes back to the caller, whose variables these are: reads the results and sets the targets.
-pub fn leave(
+/// Returns to the caller, whose variables these are: reads the results and sets the targets.
+pub fn return_to(
     m: &mut Machine,
     alloc: Global,
     results: &[Name],

@@ -11,7 +11,7 @@ ghost use Rattle.lb_source.specs.InternalMachine.{variables_of, state_of, Follow
 
 use crate::ends::SourceEnd;
 use crate::machine::{
-    Flow, Machine, assign_all, interact, leave, set_to, store, undefined, value, values,
+    Flow, Machine, assign_all, interact, return_to, set_to, store, undefined, value, values,
 };
 use crate::memory::Cell;
 use crate::variables::{Entry, assign, unset};
@@ -325,6 +325,6 @@ fn enter(
     m.stack = stack;
     match flow {
         Flow::End(end) => Ok(Flow::End(end)),
-        Flow::On => leave(m, alloc, function.results.as_slice(), targets, caller),
+        Flow::On => return_to(m, alloc, function.results.as_slice(), targets, caller),
     }
 }

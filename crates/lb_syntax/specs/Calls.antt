@@ -19,26 +19,26 @@ pub record AccessSite : Type 0 where
   pub arguments : List Term
 
 -- the calls in a command or a block, in text order
-abbrev pub calls : Command → List CallSite
-calls (Calls xs f es) = record { targets = xs; function = f; arguments = es } ∷ []
-calls (Allocates n x b) = calls b
-calls (Chooses e b d) = calls b ++ calls d
-calls (Repeats e b) = calls b
-calls (Then c b) = calls c ++ calls b
-calls _ = []
+abbrev pub call_sites : Command → List CallSite
+call_sites (Calls xs f es) = record { targets = xs; function = f; arguments = es } ∷ []
+call_sites (Allocates n x b) = call_sites b
+call_sites (Chooses e b d) = call_sites b ++ call_sites d
+call_sites (Repeats e b) = call_sites b
+call_sites (Then c b) = call_sites c ++ call_sites b
+call_sites _ = []
 
 -- the accesses of devices in a command or a block, in text order
-abbrev pub accesses : Command → List AccessSite
-accesses (Interacts xs k es) = record { targets = xs; action = k; arguments = es } ∷ []
-accesses (Allocates n x b) = accesses b
-accesses (Chooses e b d) = accesses b ++ accesses d
-accesses (Repeats e b) = accesses b
-accesses (Then c b) = accesses c ++ accesses b
-accesses _ = []
+abbrev pub access_sites : Command → List AccessSite
+access_sites (Interacts xs k es) = record { targets = xs; action = k; arguments = es } ∷ []
+access_sites (Allocates n x b) = access_sites b
+access_sites (Chooses e b d) = access_sites b ++ access_sites d
+access_sites (Repeats e b) = access_sites b
+access_sites (Then c b) = access_sites c ++ access_sites b
+access_sites _ = []
 
 -- the names of the functions that a function calls
 abbrev pub callees : Procedure → List Text
-callees f = map (λ site. site.function) (calls f.body)
+callees f = map (λ site. site.function) (call_sites f.body)
 
 -- functions of the program, each of which calls the next
 abbrev pub IsCallPath : List Procedure → List Procedure → Type 0

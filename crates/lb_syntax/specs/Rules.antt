@@ -7,7 +7,7 @@ use Rattle.lb_syntax.specs.declared.tree.Action.{Action}
 use Rattle.lb_syntax.specs.declared.tree.Action.TheVariants.{Read, Write}
 use Rattle.lb_syntax.specs.Tree.{Procedure}
 use Rattle.lb_syntax.specs.Needs.{sites, IsWithinLimits}
-use Rattle.lb_syntax.specs.Calls.{CallSite, AccessSite, calls, accesses, IsCallPath, IsRecursive, path_need}
+use Rattle.lb_syntax.specs.Calls.{CallSite, AccessSite, call_sites, access_sites, IsCallPath, IsRecursive, path_need}
 
 -- the names of a program's functions
 abbrev pub function_names : List Procedure → List Text
@@ -52,8 +52,8 @@ pub record KeepsFunctionRules (p : List Procedure) (f : Procedure) : Type 0 wher
   pub few_params : length f.params ≤ MOST_PARAMS
   pub few_results : length f.results ≤ MOST_RESULTS
   pub block_sizes : All IsBlockSize (sites f.body)
-  pub good_calls : All (IsGoodCall p) (calls f.body)
-  pub good_accesses : All IsGoodAccess (accesses f.body)
+  pub good_calls : All (IsGoodCall p) (call_sites f.body)
+  pub good_accesses : All IsGoodAccess (access_sites f.body)
   pub no_recursion : ¬ (IsRecursive p f)
 
 -- what a whole program keeps

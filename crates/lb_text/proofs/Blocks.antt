@@ -10,7 +10,7 @@ use Rattle.lb_spelling.specs.Tokens.{Token, Skip, Unset, Store, StackAlloc, If, 
 use Rattle.lb_spelling.specs.Grammar.{◌then◌, CommandAt, CommandsAt, BlockAt, ElseAt}
 use Rattle.lb_spelling.specs.InternalMachine.{Stack, next_after_if, next_commands, opened}
 use Rattle.lb_spelling.specs.InternalParsing.{Takes}
-use Rattle.lb_text.specs.declared.halt.Halt.{Halt}
+use Rattle.lb_text.specs.declared.parse_error.ParseError.{ParseError}
 use Rattle.lb_text.specs.InternalReading.{or_empty, coming, Goes, Reads, ReadsUpTo, Fails, Took, After, begins_command}
 use Rattle.lb_spelling.proofs.TextRuns.{token_less}
 use Rattle.lb_text.proofs.Steps.{start, and_token, and_part, and_parts, token_reads, fails_at, fails_among, fails_all}
@@ -28,7 +28,7 @@ pub block_read : {n : ℕ} {t : Token} {s u rest : Text} (b : Command) → n ≤
     → Reads n (symbols.Block ∷ []) (BlockAt b) n [] s rest
 block_read {n} {t} {s} {u} {rest} b h p q = let brace = takes_this OpenBrace (block_only t p.taken) p in through (BlockAt b) h brace (closed q) (λ z. (u, brace.stands, z))
 
-pub block_fails : {n : ℕ} {t : Token} {s u : Text} (e : Halt) → n ≤ most_brackets → Takes n symbols.Block t s u → Fails (n + 1) (symbols.Commands ∷ []) u e → Fails n (symbols.Block ∷ []) s e
+pub block_fails : {n : ℕ} {t : Token} {s u : Text} (e : ParseError) → n ≤ most_brackets → Takes n symbols.Block t s u → Fails (n + 1) (symbols.Commands ∷ []) u e → Fails n (symbols.Block ∷ []) s e
 block_fails {n} {t} {s} {u} e h p f = fails_all e h (takes_this OpenBrace (block_only t p.taken) p) f
 
 -- ---- commands, one after another
@@ -69,7 +69,7 @@ one_more_command {n} {cs} {t} {s} {rest} {u} c t' b p q = record {
   took = q.took;
 }
 
-pub commands_fail : {n : ℕ} {cs : List Command} {t : Token} {s rest : Text} (e : Halt) → begins_command t ≡ true → CommandsSoFar n cs t s rest → Fails n (coming symbols.Commands t) rest e → Fails n (symbols.Commands ∷ []) s e
+pub commands_fail : {n : ℕ} {cs : List Command} {t : Token} {s rest : Text} (e : ParseError) → begins_command t ≡ true → CommandsSoFar n cs t s rest → Fails n (coming symbols.Commands t) rest e → Fails n (symbols.Commands ∷ []) s e
 commands_fail {n} {cs} {t} {s} {rest} e b p f = fails_among (coming symbols.Commands t) [] e (commands_go b p) f
 
 pub commands_end : {n : ℕ} {cs : List Command} {s rest : Text} → CommandsSoFar n cs CloseBrace s rest → Reads n (symbols.Commands ∷ []) (CommandsAt (chain cs)) (n - 1) [] s rest
@@ -106,9 +106,9 @@ else_read {n} {t} {s} {s1} {s2} {rest} d h p q r = let g = and_part (and_token (
   took = record { all = s2; takes = r };
 }
 
-pub else_fails : {n : ℕ} {s s1 : Text} (e : Halt) → n ≤ most_brackets → Takes n symbols.AfterIf Else s s1 → Fails n (symbols.Block ∷ []) s1 e → Fails n (symbols.AfterIf ∷ []) s e
+pub else_fails : {n : ℕ} {s s1 : Text} (e : ParseError) → n ≤ most_brackets → Takes n symbols.AfterIf Else s s1 → Fails n (symbols.Block ∷ []) s1 e → Fails n (symbols.AfterIf ∷ []) s e
 else_fails {n} {s} {s1} e h p f = fails_at e (and_token (start {n = n} {xs = symbols.AfterIf ∷ []} {s = s} h) p) f
 
-pub else_fails_behind : {n : ℕ} {s s1 s2 : Text} (d : Command) (e : Halt) → n ≤ most_brackets → Takes n symbols.AfterIf Else s s1 → Reads n (symbols.Block ∷ []) (BlockAt d) n [] s1 s2 → Fails n (symbols.Commands ∷ []) s2 e
+pub else_fails_behind : {n : ℕ} {s s1 s2 : Text} (d : Command) (e : ParseError) → n ≤ most_brackets → Takes n symbols.AfterIf Else s s1 → Reads n (symbols.Block ∷ []) (BlockAt d) n [] s1 s2 → Fails n (symbols.Commands ∷ []) s2 e
     → Fails n (symbols.AfterIf ∷ []) s e
 else_fails_behind {n} {s} {s1} {s2} d e h p q f = fails_at e (and_part (and_token (start {n = n} {xs = symbols.AfterIf ∷ []} {s = s} h) p) q) f

@@ -10,7 +10,7 @@ use Rattle.lb_spelling.specs.Tokens.{Token, Named, Device, OpenParen, Semicolon,
 use Rattle.lb_spelling.specs.Grammar.{Standing, ◌then◌, NameAt, TargetsAt, CommandAt}
 use Rattle.lb_spelling.specs.InternalMachine.{Stack, opened, call}
 use Rattle.lb_spelling.specs.InternalParsing.{outcome, Takes}
-use Rattle.lb_text.specs.declared.halt.Halt.{Halt}
+use Rattle.lb_text.specs.declared.parse_error.ParseError.{ParseError}
 use Rattle.lb_text.specs.InternalReading.{coming, Goes, Reads, ReadsMore, Fails, After}
 use Rattle.lb_text.proofs.Steps.{start, and_token, and_part, and_parts, token_reads, fails_all}
 
@@ -82,7 +82,7 @@ term_assigned {n} {t} {s} {u} {rest} x Q h e p q = through (After (Stands (Named
     (subst (λ (ys : Stack). Reads (opened t n) ys (After (Stands (Named x) then Stands Becomes then Stands t) Q) n [] u rest) (sym e) q)
     (λ z all a. z all (a.0, a.1, (s, a.2, p.stands)))
 
-pub term_fails : {n : ℕ} {t : Token} {s u : Text} (e : Halt) → n ≤ most_brackets → coming symbols.Source t ≡ coming symbols.Expr t ++ symbols.Semicolon ∷ [] → Takes n symbols.Source t s u
+pub term_fails : {n : ℕ} {t : Token} {s u : Text} (e : ParseError) → n ≤ most_brackets → coming symbols.Source t ≡ coming symbols.Expr t ++ symbols.Semicolon ∷ [] → Takes n symbols.Source t s u
     → Fails (opened t n) (coming symbols.Expr t ++ symbols.Semicolon ∷ []) u e → Fails n (symbols.Source ∷ []) s e
 term_fails {n} {t} {s} {u} e h i p f = fails_all e h p (subst (λ (ys : Stack). Fails (opened t n) ys u e) (sym i) f)
 

@@ -12,7 +12,7 @@ use Rattle.lb_spelling.specs.InternalMachine.{Stack, next_functions}
 use Rattle.lb_spelling.specs.InternalParsing.{Takes}
 use Rattle.lb_spelling.proofs.TextRuns.{token_less}
 use Rattle.lb_spelling.proofs.Place.{gap_whole, whole_shallow}
-use Rattle.lb_text.specs.declared.halt.Halt.{Halt}
+use Rattle.lb_text.specs.declared.parse_error.ParseError.{ParseError}
 use Rattle.lb_text.specs.InternalReading.{Goes, Reads, Fails, After}
 use Rattle.lb_text.proofs.Steps.{start, and_token, and_part, and_parts, fails_at, fails_among, fails_all}
 use Rattle.lb_text.proofs.Calls.{through}
@@ -29,7 +29,7 @@ pub no_results : {t : Token} {s u rest : Text} (names : List Text) (b : Command)
 no_results {t} {s} {u} {rest} names b e i p q = let brace = takes_this OpenBrace i p in
     through (ResultsAt names then BlockAt b) none_open brace q (λ z. (s, subst (λ (them : List Text). ResultsAt them s s) (sym e) refl, (u, brace.stands, z)))
 
-pub no_results_fail : {t : Token} {s u : Text} (e : Halt) → t ≡ OpenBrace → Takes 0 symbols.Results t s u → Fails 1 (symbols.Commands ∷ []) u e → Fails 0 (symbols.Results ∷ []) s e
+pub no_results_fail : {t : Token} {s u : Text} (e : ParseError) → t ≡ OpenBrace → Takes 0 symbols.Results t s u → Fails 1 (symbols.Commands ∷ []) u e → Fails 0 (symbols.Results ∷ []) s e
 no_results_fail {t} {s} {u} e i p f = fails_all e none_open (takes_this OpenBrace i p) f
 
 abbrev names_in_brackets : Stack
@@ -45,10 +45,10 @@ pub results_read : {s u v rest : Text} (names : List Text) (b : Command) → Tak
     → Reads 0 (symbols.Block ∷ []) (BlockAt b) 0 [] v rest → Reads 0 (symbols.Results ∷ []) (ResultsAt names then BlockAt b) 0 [] s rest
 results_read {s} {u} {v} {rest} names b p q r = record { stands = (v, q.stands s p.stands, r.stands); goes = and_part (results_go p q) r }
 
-pub results_fail : {s u : Text} (e : Halt) → Takes 0 symbols.Results Arrow s u → Fails 0 names_in_brackets u e → Fails 0 (symbols.Results ∷ []) s e
+pub results_fail : {s u : Text} (e : ParseError) → Takes 0 symbols.Results Arrow s u → Fails 0 names_in_brackets u e → Fails 0 (symbols.Results ∷ []) s e
 results_fail {s} {u} e p f = fails_among names_in_brackets (symbols.Block ∷ []) e (arrow_goes p) f
 
-pub body_fails : {s u v : Text} {P : Standing} (e : Halt) → Takes 0 symbols.Results Arrow s u → Reads 0 names_in_brackets P 0 [] u v → Fails 0 (symbols.Block ∷ []) v e → Fails 0 (symbols.Results ∷ []) s e
+pub body_fails : {s u v : Text} {P : Standing} (e : ParseError) → Takes 0 symbols.Results Arrow s u → Reads 0 names_in_brackets P 0 [] u v → Fails 0 (symbols.Block ∷ []) v e → Fails 0 (symbols.Results ∷ []) s e
 body_fails {s} {u} {v} {P} e p q f = fails_at e (results_go p q) f
 
 -- ---- functions, one after another
@@ -77,7 +77,7 @@ one_more_function {fs} {t} {s} {rest} {u} {v} f p q r = let word = takes_this Fn
 pub function_less : {t : Token} {rest u v : Text} {P : Standing} → Takes 0 symbols.Functions t rest u → Reads 0 a_function P 0 [] u v → length v < length rest
 function_less {t} {rest} {u} {v} {P} q r = omega (arith, token_less t rest u q.stands, r.goes.shorter)
 
-pub function_fails : {fs : List Procedure} {t : Token} {s rest u : Text} (e : Halt) → FunctionsSoFar fs s rest → Takes 0 symbols.Functions t rest u → Fails 0 a_function u e → Fails 0 all_functions s e
+pub function_fails : {fs : List Procedure} {t : Token} {s rest u : Text} (e : ParseError) → FunctionsSoFar fs s rest → Takes 0 symbols.Functions t rest u → Fails 0 a_function u e → Fails 0 all_functions s e
 function_fails {fs} {t} {s} {rest} {u} e p q f = fails_among a_function all_functions e (function_goes p.goes q) f
 
 pub functions_end : {fs : List Procedure} {s rest : Text} → FunctionsSoFar fs s rest → gap true Outside rest ≡ true → IsAccepted fs s

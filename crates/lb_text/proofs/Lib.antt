@@ -4,4 +4,4 @@ pub mod Functions
 pub mod Lists
 pub mod Signs
 pub mod Steps
-pub mod Words
+pub mod Tokens

@@ -10,7 +10,7 @@ use Rattle.lb_spelling.specs.Tokens.{Token, Numeral, Named, Load, OpenParen, Sta
 use Rattle.lb_spelling.specs.Grammar.{Standing, ◌then◌, MoreAt, NameAt, NamesAt, TermAt, ArgumentsAt}
 use Rattle.lb_spelling.specs.InternalMachine.{Stack, next, next_more_names, next_more_targets, next_arguments, next_more_arguments, opened}
 use Rattle.lb_spelling.specs.InternalParsing.{Takes}
-use Rattle.lb_text.specs.declared.halt.Halt.{Halt}
+use Rattle.lb_text.specs.declared.parse_error.ParseError.{ParseError}
 use Rattle.lb_text.specs.InternalReading.{coming, Goes, Reads, ReadsFrom, ReadsMore, Fails, FailsFrom, After, ends_names, last_of}
 use Rattle.lb_text.proofs.Steps.{start, and_token, and_part, and_parts, fails_at, fails_among, fails_all, token_reads}
 use Rattle.lb_text.proofs.Signs.{takes_this}
@@ -96,7 +96,7 @@ some_params {n} {x} {names} {whole} {s} {u} {rest} h p e q = record {
   goes = and_parts (symbols.MoreNames ∷ []) [] [] (and_token (start h) p) q.reads.goes;
 }
 
-pub params_fail : {n : ℕ} {x : Text} {s u : Text} (e : Halt) → n ≤ most_brackets → Takes n symbols.Names (Named x) s u → Fails n (symbols.MoreNames ∷ []) u e → Fails n (symbols.Names ∷ []) s e
+pub params_fail : {n : ℕ} {x : Text} {s u : Text} (e : ParseError) → n ≤ most_brackets → Takes n symbols.Names (Named x) s u → Fails n (symbols.MoreNames ∷ []) u e → Fails n (symbols.Names ∷ []) s e
 params_fail {n} {x} {s} {u} e h p f = fails_all e h p f
 
 -- ---- arguments
@@ -156,9 +156,9 @@ arguments_read {n} {t} first es {m} {s} {u} {v} {rest} h c p q r = record {
   goes = and_part (and_parts (coming symbols.Expr t) (symbols.MoreArguments ∷ []) [] (arguments_goes h c p) q.goes) r;
 }
 
-pub arguments_fail_first : {n : ℕ} {t : Token} {s u : Text} (e : Halt) → n ≤ most_brackets → (t ≡ CloseParen → ⊥) → Takes n symbols.Arguments t s u → FailsFrom n symbols.Expr t u e → Fails n (symbols.Arguments ∷ []) s e
+pub arguments_fail_first : {n : ℕ} {t : Token} {s u : Text} (e : ParseError) → n ≤ most_brackets → (t ≡ CloseParen → ⊥) → Takes n symbols.Arguments t s u → FailsFrom n symbols.Expr t u e → Fails n (symbols.Arguments ∷ []) s e
 arguments_fail_first {n} {t} {s} {u} e h c p f = fails_among (coming symbols.Expr t) (symbols.MoreArguments ∷ []) e (arguments_goes h c p) f
 
-pub arguments_fail_more : {n : ℕ} {t : Token} (first : Term) {s u v : Text} (e : Halt) → n ≤ most_brackets → (t ≡ CloseParen → ⊥) → Takes n symbols.Arguments t s u
+pub arguments_fail_more : {n : ℕ} {t : Token} (first : Term) {s u v : Text} (e : ParseError) → n ≤ most_brackets → (t ≡ CloseParen → ⊥) → Takes n symbols.Arguments t s u
     → ReadsFrom n symbols.Expr t (TermAt first) n [] u v → Fails n (symbols.MoreArguments ∷ []) v e → Fails n (symbols.Arguments ∷ []) s e
 arguments_fail_more {n} {t} first {s} {u} {v} e h c p q f = fails_at e (and_parts (coming symbols.Expr t) (symbols.MoreArguments ∷ []) [] (arguments_goes h c p) q.goes) f

@@ -8,8 +8,8 @@ use Rattle.lb_spelling.specs.Tokens.{Token, Stands}
 use Rattle.lb_spelling.specs.Grammar.{Standing}
 use Rattle.lb_spelling.specs.InternalMachine.{Stack, next, opened}
 use Rattle.lb_spelling.specs.InternalParsing.{outcome, Takes}
-use Rattle.lb_text.specs.declared.halt.Halt.{Halt}
-use Rattle.lb_text.specs.declared.halt.Halt.TheVariants.{Memory, Fault}
+use Rattle.lb_text.specs.declared.parse_error.ParseError.{ParseError}
+use Rattle.lb_text.specs.declared.parse_error.ParseError.TheVariants.{Memory, Syntax}
 use Rattle.lb_text.specs.InternalReading.{or_empty, coming, Goes, Reads, Fails, After, ReadsFrom, FailsFrom}
 use Rattle.lb_spelling.proofs.Running.{token_runs}
 use Rattle.lb_spelling.proofs.TextRuns.{token_less}
@@ -50,15 +50,15 @@ and_parts {n} {xs} {m} {s} {u} zs ys ws {m'} {rest} g p = record {
   shorter = omega (arith, g.shorter, p.shorter);
 }
 
-pub fails_at : {n : ℕ} {xs : Stack} {m : ℕ} {y : Symbol} {ys : Stack} {s u : Text} (e : Halt)
+pub fails_at : {n : ℕ} {xs : Stack} {m : ℕ} {y : Symbol} {ys : Stack} {s u : Text} (e : ParseError)
     → Goes n xs m (y ∷ ys) s u → Fails m (y ∷ []) u e → Fails n xs s e
 fails_at Memory g p = tt
-fails_at {ys = ys} (Fault stop) g p = λ k. g.runs k ∙ p (ys ++ k)
+fails_at {ys = ys} (Syntax error) g p = λ k. g.runs k ∙ p (ys ++ k)
 
-pub fails_among : {n : ℕ} {xs : Stack} {m : ℕ} {s u : Text} (zs ys : Stack) (e : Halt)
+pub fails_among : {n : ℕ} {xs : Stack} {m : ℕ} {s u : Text} (zs ys : Stack) (e : ParseError)
     → Goes n xs m (zs ++ ys) s u → Fails m zs u e → Fails n xs s e
 fails_among zs ys Memory g p = tt
-fails_among {n} {xs} {m} {s} {u} zs ys (Fault stop) g p = λ k. g.runs k ∙ (ap (λ (z : Stack). outcome u m z) (append_assoc zs ys k) ∙ p (ys ++ k))
+fails_among {n} {xs} {m} {s} {u} zs ys (Syntax error) g p = λ k. g.runs k ∙ (ap (λ (z : Stack). outcome u m z) (append_assoc zs ys k) ∙ p (ys ++ k))
 
 -- ---- the first token before the rest
 
@@ -73,9 +73,9 @@ reads_all {n} {x} {t} {P} {m} {ys} {s} {u} {rest} h p q = record {
   };
 }
 
-pub fails_all : {n : ℕ} {x : Symbol} {t : Token} {s u : Text} (e : Halt) → n ≤ most_brackets → Takes n x t s u → FailsFrom n x t u e → Fails n (x ∷ []) s e
+pub fails_all : {n : ℕ} {x : Symbol} {t : Token} {s u : Text} (e : ParseError) → n ≤ most_brackets → Takes n x t s u → FailsFrom n x t u e → Fails n (x ∷ []) s e
 fails_all Memory h p q = tt
-fails_all {n} {x} {t} {s} {u} (Fault stop) h p q = let g = and_token (start {n = n} {xs = x ∷ []} {s = s} h) p in
+fails_all {n} {x} {t} {s} {u} (Syntax error) h p q = let g = and_token (start {n = n} {xs = x ∷ []} {s = s} h) p in
     λ k. g.runs k ∙ (ap (λ (z : Stack). outcome u (opened t n) (z ++ k)) (append-nil (coming x t)) ∙ q k)
 
 -- a token that leaves nothing to come

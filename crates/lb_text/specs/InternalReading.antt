@@ -14,8 +14,8 @@ use Rattle.lb_spelling.specs.InternalParsing.{outcome, Takes}
 use Rattle.lb_text.specs.declared.call.Callee.{Callee}
 use Rattle.lb_text.specs.declared.call.Callee.TheVariants.{Function}
 use Rattle.lb_text.specs.declared.call.Callee.TheVariants as Callees
-use Rattle.lb_text.specs.declared.halt.Halt.{Halt}
-use Rattle.lb_text.specs.declared.halt.Halt.TheVariants.{Memory, Fault}
+use Rattle.lb_text.specs.declared.parse_error.ParseError.{ParseError}
+use Rattle.lb_text.specs.declared.parse_error.ParseError.TheVariants.{Memory, Syntax}
 
 -- the symbols of a stack, none where there is no stack
 abbrev pub or_empty : Option Stack → Stack
@@ -38,9 +38,9 @@ pub record Reads (n : ℕ) (xs : Stack) (P : Standing) (m : ℕ) (ys : Stack) (s
   pub goes : Goes n xs m ys s rest
 
 -- where xs has to come, s has a fault, unless memory ran out
-abbrev pub Fails : ℕ → Stack → Text → Halt → Type 0
+abbrev pub Fails : ℕ → Stack → Text → ParseError → Type 0
 Fails n xs s Memory = Unit {0}
-Fails n xs s (Fault stop) = (k : Stack) → outcome s n (xs ++ k) ≡ Stuck stop.kind stop.left
+Fails n xs s (Syntax error) = (k : Stack) → outcome s n (xs ++ k) ≡ Stuck error.kind error.left
 
 -- what P before s makes Q
 abbrev pub After : Standing → Standing → Standing
@@ -55,7 +55,7 @@ pub record Took (n : ℕ) (x : Symbol) (t : Token) (s : Text) : Type 0 where
 abbrev pub ReadsFrom : ℕ → Symbol → Token → Standing → ℕ → Stack → Text → Text → Type 0
 ReadsFrom n x t P m ys s rest = Reads (opened t n) (coming x t) (After (Stands t) P) m ys s rest
 
-abbrev pub FailsFrom : ℕ → Symbol → Token → Text → Halt → Type 0
+abbrev pub FailsFrom : ℕ → Symbol → Token → Text → ParseError → Type 0
 FailsFrom n x t s e = Fails (opened t n) (coming x t) s e
 
 -- P up to the commands of which t is the first token, which was read too

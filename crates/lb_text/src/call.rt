@@ -8,10 +8,10 @@ ghost use Rattle.lb_spelling.specs.Tokens.{OpenParen, CloseParen, Semicolon, Sta
 ghost use Rattle.lb_spelling.specs.Grammar.{◌then◌, TermAt, ArgumentsAt, TargetsAt, CommandAt};
 ghost use Rattle.lb_text.specs.InternalReading.{Reads, Fails, After, token_of_callee};
 
-use crate::halt::Halt;
+use crate::parse_error::ParseError;
 use crate::term::{term, term_from};
-use crate::token::{sign, token};
-use lb_scan::Word;
+use crate::token::{expect_token, sign};
+use lb_scan::Token;
 use lb_spelling::Symbol;
 use lb_syntax::{Action, Cmd, Expr, Name};
 use sqlite_items::Items;
@@ -33,7 +33,7 @@ pub fn call(
     targets: Items<Name>,
     callee: Callee,
     bytes: &[u8],
-) -> Result<(Cmd, &[u8]), Halt>
+) -> Result<(Cmd, &[u8]), ParseError>
     requires some { 1 ≤ depth }
     requires few { depth ≤ most_brackets }
     ensures found { IfOk result (λ r. Reads depth (symbols.Arguments ∷ symbols.Semicolon ∷ []) (After (TargetsAt targets then Stands (token_of_callee callee) then Stands OpenParen) (CommandAt (command_of r.0))) (depth - 1) [] bytes.now r.1.now) }
@@ -57,16 +57,16 @@ pub fn call(
 }
 
 // The arguments from behind the bracket before them on, and what follows the bracket behind them.
-fn arguments(alloc: Global, depth: u32, bytes: &[u8]) -> Result<(Items<Expr>, &[u8]), Halt>
+fn arguments(alloc: Global, depth: u32, bytes: &[u8]) -> Result<(Items<Expr>, &[u8]), ParseError>
     requires { depth ≤ most_brackets }
     ensures found { IfOk result (λ r. Reads depth (symbols.Arguments ∷ []) (ArgumentsAt (map term_of r.0) then Stands CloseParen) (depth - 1) [] bytes.now r.1.now) }
     ensures fault { IfErr result (λ e. Fails depth (symbols.Arguments ∷ []) bytes.now e) }
 {
-    let (word, rest) = token(Symbol::Arguments, depth, bytes)?;
-    if let Word::CloseParen = word {
+    let (token, rest) = expect_token(Symbol::Arguments, depth, bytes)?;
+    if let Token::CloseParen = token {
         return Ok((Items::new(alloc), rest));
     }
-    let (first, rest) = term_from(alloc, depth, word, rest)?;
+    let (first, rest) = term_from(alloc, depth, token, rest)?;
     more_arguments(alloc, depth, first, rest)
 }
 
@@ -76,7 +76,7 @@ fn more_arguments(
     depth: u32,
     first: Expr,
     bytes: &[u8],
-) -> Result<(Items<Expr>, &[u8]), Halt>
+) -> Result<(Items<Expr>, &[u8]), ParseError>
     requires { depth ≤ most_brackets }
     ensures found { IfOk result (λ r. Reads depth (symbols.MoreArguments ∷ []) (After (TermAt (term_of first)) (ArgumentsAt (map term_of r.0) then Stands CloseParen)) (depth - 1) [] bytes.now r.1.now) }
     ensures fault { IfErr result (λ e. Fails depth (symbols.MoreArguments ∷ []) bytes.now e) }
@@ -85,8 +85,8 @@ fn more_arguments(
     arguments.push(first)?;
     let mut rest = bytes;
     loop {
-        let (word, after) = token(Symbol::MoreArguments, depth, rest)?;
-        if let Word::CloseParen = word {
+        let (token, after) = expect_token(Symbol::MoreArguments, depth, rest)?;
+        if let Token::CloseParen = token {
             return Ok((arguments, after));
         }
         let (argument, after) = term(alloc, depth, after)?;

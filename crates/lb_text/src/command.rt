@@ -5,16 +5,16 @@ ghost use Rattle.lb_syntax.specs.Tree.{Then, chain, command_of, block_of};
 ghost use Rattle.lb_spelling.specs.declared.symbol.Symbol.TheVariants as symbols;
 ghost use Rattle.lb_spelling.specs.Tokens.{If, While, StackAlloc, Stands};
 ghost use Rattle.lb_spelling.specs.Grammar.{◌then◌, CommandAt, CommandsAt, BlockAt, ElseAt};
-ghost use Rattle.lb_scan.specs.Words.{token_of};
+ghost use Rattle.lb_scan.specs.Tokens.{token_of};
 ghost use Rattle.lb_text.specs.InternalReading.{Reads, ReadsUpTo, Fails, After, coming, Took, begins_plain, begins_command};
 
 use crate::call::Callee;
-use crate::halt::Halt;
 use crate::names::{checked, name};
+use crate::parse_error::ParseError;
 use crate::simple::{call_of, named, store, unset};
 use crate::term::term;
-use crate::token::{number, sign, token};
-use lb_scan::Word;
+use crate::token::{expect_token, number, sign};
+use lb_scan::Token;
 use lb_spelling::Symbol;
 use lb_syntax::{Block, Cmd};
 use sqlite_items::Items;
@@ -22,31 +22,31 @@ use std::alloc::Global;
 
 /// The block at the front, and what follows it.
 #[cycle(block)]
-pub fn block(alloc: Global, depth: u32, bytes: &[u8]) -> Result<(Block, &[u8]), Halt>
+pub fn block(alloc: Global, depth: u32, bytes: &[u8]) -> Result<(Block, &[u8]), ParseError>
     requires { depth ≤ most_brackets }
     ensures found { IfOk result (λ r. Reads depth (symbols.Block ∷ []) (BlockAt (block_of r.0)) depth [] bytes.now r.1.now) }
     ensures fault { IfErr result (λ e. Fails depth (symbols.Block ∷ []) bytes.now e) }
 {
-    let (_, rest) = token(Symbol::Block, depth, bytes)?;
+    let (_, rest) = expect_token(Symbol::Block, depth, bytes)?;
     commands(alloc, depth + 1, rest)
 }
 
 /// The block from behind its first bracket, the innermost that is open, on, and what follows it.
 #[cycle(block)]
-pub fn commands(alloc: Global, depth: u32, bytes: &[u8]) -> Result<(Block, &[u8]), Halt>
+pub fn commands(alloc: Global, depth: u32, bytes: &[u8]) -> Result<(Block, &[u8]), ParseError>
     requires { depth ≤ most_brackets }
     ensures found { IfOk result (λ r. Reads depth (symbols.Commands ∷ []) (CommandsAt (block_of r.0)) (depth - 1) [] bytes.now r.1.now) }
     ensures fault { IfErr result (λ e. Fails depth (symbols.Commands ∷ []) bytes.now e) }
 {
     let mut commands = Items::new(alloc);
-    let (mut word, mut rest) = token(Symbol::Commands, depth, bytes)?;
+    let (mut token, mut rest) = expect_token(Symbol::Commands, depth, bytes)?;
     loop {
-        if let Word::CloseBrace = word {
+        if let Token::CloseBrace = token {
             return Ok((Block { commands }, rest));
         }
-        let (command, next, after) = command(alloc, depth, word, rest)?;
+        let (command, next, after) = command(alloc, depth, token, rest)?;
         commands.push(command)?;
-        word = next;
+        token = next;
         rest = after;
     }
 }
@@ -56,26 +56,26 @@ pub fn commands(alloc: Global, depth: u32, bytes: &[u8]) -> Result<(Block, &[u8]
 fn command<'a>(
     alloc: Global,
     depth: u32,
-    word: Word<'a>,
+    token: Token<'a>,
     bytes: &'a [u8],
-) -> Result<(Cmd, Word<'a>, &'a [u8]), Halt>
+) -> Result<(Cmd, Token<'a>, &'a [u8]), ParseError>
     requires depth { depth ≤ most_brackets }
-    requires took { Took depth symbols.Commands (token_of word) bytes.now }
-    requires begins { begins_command (token_of word) ≡ true }
-    ensures found { IfOk result (λ r. ReadsUpTo depth (coming symbols.Commands (token_of word.entry)) (λ more. After (Stands (token_of word.entry)) (CommandsAt (Then (command_of r.0) (chain more)))) (token_of r.1) bytes.now r.2.now) }
-    ensures fault { IfErr result (λ e. Fails depth (coming symbols.Commands (token_of word.entry)) bytes.now e) }
+    requires took { Took depth symbols.Commands (token_of token) bytes.now }
+    requires begins { begins_command (token_of token) ≡ true }
+    ensures found { IfOk result (λ r. ReadsUpTo depth (coming symbols.Commands (token_of token.entry)) (λ more. After (Stands (token_of token.entry)) (CommandsAt (Then (command_of r.0) (chain more)))) (token_of r.1) bytes.now r.2.now) }
+    ensures fault { IfErr result (λ e. Fails depth (coming symbols.Commands (token_of token.entry)) bytes.now e) }
 {
-    if let Word::If = word {
+    if let Token::If = token {
         return choice(alloc, depth, bytes);
     }
-    let (command, rest) = plain_command(alloc, depth, word, bytes)?;
-    let (next, rest) = token(Symbol::Commands, depth, rest)?;
+    let (command, rest) = plain_command(alloc, depth, token, bytes)?;
+    let (next, rest) = expect_token(Symbol::Commands, depth, rest)?;
     Ok((command, next, rest))
 }
 
-// The `if` whose word was read, the token behind it, and what follows that.
+// The `if` whose keyword was read, the token behind it, and what follows that.
 #[cycle(block)]
-fn choice(alloc: Global, depth: u32, bytes: &[u8]) -> Result<(Cmd, Word, &[u8]), Halt>
+fn choice(alloc: Global, depth: u32, bytes: &[u8]) -> Result<(Cmd, Token, &[u8]), ParseError>
     requires { depth ≤ most_brackets }
     ensures found { IfOk result (λ r. ReadsUpTo depth (symbols.Expr ∷ symbols.Block ∷ symbols.AfterIf ∷ []) (λ more. After (Stands If) (CommandsAt (Then (command_of r.0) (chain more)))) (token_of r.1) bytes.now r.2.now) }
     ensures fault { IfErr result (λ e. Fails depth (symbols.Expr ∷ symbols.Block ∷ symbols.AfterIf ∷ []) bytes.now e) }
@@ -88,18 +88,18 @@ fn choice(alloc: Global, depth: u32, bytes: &[u8]) -> Result<(Cmd, Word, &[u8]),
 
 // The second block of an `if`, empty where no `else` stands here, the token behind it, and what follows that.
 #[cycle(block)]
-fn otherwise(alloc: Global, depth: u32, bytes: &[u8]) -> Result<(Block, Word, &[u8]), Halt>
+fn otherwise(alloc: Global, depth: u32, bytes: &[u8]) -> Result<(Block, Token, &[u8]), ParseError>
     requires { depth ≤ most_brackets }
     ensures found { IfOk result (λ r. ReadsUpTo depth (symbols.AfterIf ∷ []) (λ more. ElseAt (block_of r.0) then CommandsAt (chain more)) (token_of r.1) bytes.now r.2.now) }
     ensures fault { IfErr result (λ e. Fails depth (symbols.AfterIf ∷ []) bytes.now e) }
 {
-    let (word, rest) = token(Symbol::AfterIf, depth, bytes)?;
-    let Word::Else = word else {
+    let (token, rest) = expect_token(Symbol::AfterIf, depth, bytes)?;
+    let Token::Else = token else {
         let commands = Items::new(alloc);
-        return Ok((Block { commands }, word, rest));
+        return Ok((Block { commands }, token, rest));
     };
     let (no, rest) = block(alloc, depth, rest)?;
-    let (next, rest) = token(Symbol::Commands, depth, rest)?;
+    let (next, rest) = expect_token(Symbol::Commands, depth, rest)?;
     Ok((no, next, rest))
 }
 
@@ -108,23 +108,23 @@ fn otherwise(alloc: Global, depth: u32, bytes: &[u8]) -> Result<(Block, Word, &[
 fn plain_command<'a>(
     alloc: Global,
     depth: u32,
-    word: Word<'a>,
+    token: Token<'a>,
     bytes: &'a [u8],
-) -> Result<(Cmd, &'a [u8]), Halt>
+) -> Result<(Cmd, &'a [u8]), ParseError>
     requires depth { depth ≤ most_brackets }
-    requires took { Took depth symbols.Commands (token_of word) bytes.now }
-    requires begins { begins_plain (token_of word) ≡ true }
-    ensures found { IfOk result (λ r. Reads depth (coming symbols.Commands (token_of word.entry)) (After (Stands (token_of word.entry)) (CommandAt (command_of r.0))) depth (symbols.Commands ∷ []) bytes.now r.1.now) }
-    ensures fault { IfErr result (λ e. Fails depth (coming symbols.Commands (token_of word.entry)) bytes.now e) }
+    requires took { Took depth symbols.Commands (token_of token) bytes.now }
+    requires begins { begins_plain (token_of token) ≡ true }
+    ensures found { IfOk result (λ r. Reads depth (coming symbols.Commands (token_of token.entry)) (After (Stands (token_of token.entry)) (CommandAt (command_of r.0))) depth (symbols.Commands ∷ []) bytes.now r.1.now) }
+    ensures fault { IfErr result (λ e. Fails depth (coming symbols.Commands (token_of token.entry)) bytes.now e) }
 {
-    match word {
-        Word::Skip => Ok((Cmd::Skip, sign(Symbol::Semicolon, depth, bytes)?)),
-        Word::Unset => unset(alloc, depth, bytes),
-        Word::Store(width) => store(alloc, depth, width, bytes),
-        Word::StackAlloc => allocation(alloc, depth, bytes),
-        Word::While => repetition(alloc, depth, bytes),
-        Word::Name(spelling) => named(alloc, depth, checked(alloc, spelling)?, bytes),
-        Word::Device(action) => call_of(
+    match token {
+        Token::Skip => Ok((Cmd::Skip, sign(Symbol::Semicolon, depth, bytes)?)),
+        Token::Unset => unset(alloc, depth, bytes),
+        Token::Store(width) => store(alloc, depth, width, bytes),
+        Token::StackAlloc => allocation(alloc, depth, bytes),
+        Token::While => repetition(alloc, depth, bytes),
+        Token::Name(spelling) => named(alloc, depth, checked(alloc, spelling)?, bytes),
+        Token::Device(action) => call_of(
             alloc,
             depth,
             Items::new(alloc),
@@ -135,9 +135,9 @@ fn plain_command<'a>(
     }
 }
 
-// The `while` whose word was read, and what follows it.
+// The `while` whose keyword was read, and what follows it.
 #[cycle(block)]
-fn repetition(alloc: Global, depth: u32, bytes: &[u8]) -> Result<(Cmd, &[u8]), Halt>
+fn repetition(alloc: Global, depth: u32, bytes: &[u8]) -> Result<(Cmd, &[u8]), ParseError>
     requires { depth ≤ most_brackets }
     ensures found { IfOk result (λ r. Reads depth (symbols.Expr ∷ symbols.Block ∷ []) (After (Stands While) (CommandAt (command_of r.0))) depth [] bytes.now r.1.now) }
     ensures fault { IfErr result (λ e. Fails depth (symbols.Expr ∷ symbols.Block ∷ []) bytes.now e) }
@@ -147,9 +147,9 @@ fn repetition(alloc: Global, depth: u32, bytes: &[u8]) -> Result<(Cmd, &[u8]), H
     Ok((Cmd::While { condition, body }, rest))
 }
 
-// The `stackalloc` whose word was read, and what follows it.
+// The `stackalloc` whose keyword was read, and what follows it.
 #[cycle(block)]
-fn allocation(alloc: Global, depth: u32, bytes: &[u8]) -> Result<(Cmd, &[u8]), Halt>
+fn allocation(alloc: Global, depth: u32, bytes: &[u8]) -> Result<(Cmd, &[u8]), ParseError>
     requires { depth ≤ most_brackets }
     ensures found { IfOk result (λ r. Reads depth (symbols.Number ∷ symbols.As ∷ symbols.Name ∷ symbols.Block ∷ []) (After (Stands StackAlloc) (CommandAt (command_of r.0))) depth [] bytes.now r.1.now) }
     ensures fault { IfErr result (λ e. Fails depth (symbols.Number ∷ symbols.As ∷ symbols.Name ∷ symbols.Block ∷ []) bytes.now e) }

@@ -7,17 +7,17 @@ ghost use Rattle.lb_spelling.specs.Grammar.{◌then◌, BlockAt, ResultsAt, Func
 ghost use Rattle.lb_text.specs.InternalReading.{Reads, Fails, After};
 
 use crate::command::{block, commands};
-use crate::halt::Halt;
 use crate::names::{more_names, name, one, params};
-use crate::token::{sign, token};
-use lb_scan::Word;
+use crate::parse_error::ParseError;
+use crate::token::{expect_token, sign};
+use lb_scan::Token;
 use lb_spelling::Symbol;
 use lb_syntax::{Block, Function, Name};
 use sqlite_items::Items;
 use std::alloc::Global;
 
-/// The function whose word `fn` was read, and what follows it.
-pub fn function(alloc: Global, bytes: &[u8]) -> Result<(Function, &[u8]), Halt>
+/// The function whose keyword `fn` was read, and what follows it.
+pub fn function(alloc: Global, bytes: &[u8]) -> Result<(Function, &[u8]), ParseError>
     ensures found { IfOk result (λ r. Reads 0 (symbols.Name ∷ symbols.OpenParen ∷ symbols.Names ∷ symbols.Results ∷ []) (After (Stands Fn) (FunctionAt (procedure_of r.0))) 0 [] bytes.now r.1.now) }
     ensures fault { IfErr result (λ e. Fails 0 (symbols.Name ∷ symbols.OpenParen ∷ symbols.Names ∷ symbols.Results ∷ []) bytes.now e) }
 {
@@ -35,12 +35,12 @@ pub fn function(alloc: Global, bytes: &[u8]) -> Result<(Function, &[u8]), Halt>
 }
 
 // The results and the body, and what follows them.
-fn results_and_body(alloc: Global, bytes: &[u8]) -> Result<(Items<Name>, Block, &[u8]), Halt>
+fn results_and_body(alloc: Global, bytes: &[u8]) -> Result<(Items<Name>, Block, &[u8]), ParseError>
     ensures found { IfOk result (λ r. Reads 0 (symbols.Results ∷ []) (ResultsAt r.0 then BlockAt (block_of r.1)) 0 [] bytes.now r.2.now) }
     ensures fault { IfErr result (λ e. Fails 0 (symbols.Results ∷ []) bytes.now e) }
 {
-    let (word, rest) = token(Symbol::Results, 0, bytes)?;
-    let Word::Arrow = word else {
+    let (token, rest) = expect_token(Symbol::Results, 0, bytes)?;
+    let Token::Arrow = token else {
         let (body, rest) = commands(alloc, 1, rest)?;
         return Ok((Items::new(alloc), body, rest));
     };
@@ -50,7 +50,7 @@ fn results_and_body(alloc: Global, bytes: &[u8]) -> Result<(Items<Name>, Block, 
 }
 
 // The results whose arrow was read, and what follows them.
-fn results(alloc: Global, bytes: &[u8]) -> Result<(Items<Name>, &[u8]), Halt>
+fn results(alloc: Global, bytes: &[u8]) -> Result<(Items<Name>, &[u8]), ParseError>
     ensures found { IfOk result (λ r. Reads 0 (symbols.OpenParen ∷ symbols.Name ∷ symbols.MoreNames ∷ []) (After (Stands Arrow) (ResultsAt r.0)) 0 [] bytes.now r.1.now) }
     ensures fault { IfErr result (λ e. Fails 0 (symbols.OpenParen ∷ symbols.Name ∷ symbols.MoreNames ∷ []) bytes.now e) }
 {

@@ -5,12 +5,12 @@ ghost use Rattle.lb_syntax.specs.Brackets.{most_brackets};
 ghost use Rattle.lb_spelling.specs.declared.symbol.Symbol.TheVariants as symbols;
 ghost use Rattle.lb_spelling.specs.Tokens.{CloseParen, Stands};
 ghost use Rattle.lb_spelling.specs.Grammar.{◌then◌, NameAt, NamesAt};
-ghost use Rattle.lb_text.specs.declared.halt.Halt.TheVariants.{Memory};
+ghost use Rattle.lb_text.specs.declared.parse_error.ParseError.TheVariants.{Memory};
 ghost use Rattle.lb_text.specs.InternalReading.{Reads, Fails, ReadsMore, ends_names};
 
-use crate::halt::Halt;
-use crate::token::token;
-use lb_scan::Word;
+use crate::parse_error::ParseError;
+use crate::token::expect_token;
+use lb_scan::Token;
 use lb_spelling::Symbol;
 use lb_syntax::{Name, NameFault};
 use sqlite_items::Items;
@@ -29,13 +29,13 @@ pub fn checked(alloc: Global, bytes: &[u8]) -> Result<Name, AllocError>
 }
 
 /// The name at the front, and what follows it.
-pub fn name(alloc: Global, depth: u32, bytes: &[u8]) -> Result<(Name, &[u8]), Halt>
+pub fn name(alloc: Global, depth: u32, bytes: &[u8]) -> Result<(Name, &[u8]), ParseError>
     requires { depth ≤ most_brackets }
     ensures found { IfOk result (λ r. Reads depth (symbols.Name ∷ []) (NameAt r.0) depth [] bytes.now r.1.now) }
     ensures fault { IfErr result (λ e. Fails depth (symbols.Name ∷ []) bytes.now e) }
 {
-    let (word, rest) = token(Symbol::Name, depth, bytes)?;
-    let Word::Name(spelling) = word else {
+    let (token, rest) = expect_token(Symbol::Name, depth, bytes)?;
+    let Token::Name(spelling) = token else {
         unreachable!()
     };
     Ok((checked(alloc, spelling)?, rest))
@@ -51,15 +51,15 @@ pub fn one(alloc: Global, name: Name) -> Result<Items<Name>, AllocError>
 }
 
 /// The parameters from behind the bracket before them on, and what follows the bracket behind them.
-pub fn params(alloc: Global, depth: u32, bytes: &[u8]) -> Result<(Items<Name>, &[u8]), Halt>
+pub fn params(alloc: Global, depth: u32, bytes: &[u8]) -> Result<(Items<Name>, &[u8]), ParseError>
     requires { depth ≤ most_brackets }
     ensures found { IfOk result (λ r. Reads depth (symbols.Names ∷ []) (NamesAt r.0 then Stands CloseParen) (depth - 1) [] bytes.now r.1.now) }
     ensures fault { IfErr result (λ e. Fails depth (symbols.Names ∷ []) bytes.now e) }
 {
-    let (word, rest) = token(Symbol::Names, depth, bytes)?;
-    match word {
-        Word::CloseParen => Ok((Items::new(alloc), rest)),
-        Word::Name(spelling) => {
+    let (token, rest) = expect_token(Symbol::Names, depth, bytes)?;
+    match token {
+        Token::CloseParen => Ok((Items::new(alloc), rest)),
+        Token::Name(spelling) => {
             let names = one(alloc, checked(alloc, spelling)?)?;
             more_names(alloc, Symbol::MoreNames, depth, names, rest)
         }
@@ -75,7 +75,7 @@ pub fn more_names(
     depth: u32,
     names: Items<Name>,
     bytes: &[u8],
-) -> Result<(Items<Name>, &[u8]), Halt>
+) -> Result<(Items<Name>, &[u8]), ParseError>
     requires depth { depth ≤ most_brackets }
     requires more { ends_names more ≡ true }
     ensures found { IfOk result (λ r. ReadsMore depth more names r.0 bytes.now r.1.now) }
@@ -84,8 +84,8 @@ pub fn more_names(
     let mut names = names;
     let mut rest = bytes;
     loop {
-        let (word, after) = token(more, depth, rest)?;
-        let Word::Comma = word else {
+        let (token, after) = expect_token(more, depth, rest)?;
+        let Token::Comma = token else {
             return Ok((names, after));
         };
         let (next, after) = name(alloc, depth, after)?;

@@ -9,7 +9,7 @@ ghost use Rattle.lb_text.specs.InternalReading.{Fails};
 
 use crate::error::ReadError;
 use crate::function::function;
-use crate::halt::Halt;
+use crate::parse_error::ParseError;
 use lb_scan::scan_or_end;
 use lb_spelling::{Symbol, TextFault};
 use lb_syntax::{Function, Program};
@@ -31,19 +31,19 @@ pub fn read_program(alloc: Global, bytes: &[u8]) -> Result<Program, ReadError>
 {
     match functions(alloc, bytes) {
         Ok(functions) => Ok(Program { functions }),
-        Err(Halt::Memory) => Err(ReadError::Memory),
-        Err(Halt::Fault(stop)) => {
-            let at = (bytes.len() - stop.left) as u32;
+        Err(ParseError::Memory) => Err(ReadError::Memory),
+        Err(ParseError::Syntax(error)) => {
+            let at = (bytes.len() - error.left) as u32;
             Err(ReadError::Text(TextFault {
                 at,
-                kind: stop.kind,
+                kind: error.kind,
             }))
         }
     }
 }
 
 // The functions that the text is.
-fn functions(alloc: Global, bytes: &[u8]) -> Result<Items<Function>, Halt>
+fn functions(alloc: Global, bytes: &[u8]) -> Result<Items<Function>, ParseError>
     ensures found { IfOk result (λ functions. IsAccepted (map procedure_of functions) bytes.now) }
     ensures fault { IfErr result (λ e. Fails 0 (symbols.Functions ∷ []) bytes.now e) }
 {

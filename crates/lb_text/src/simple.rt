@@ -6,22 +6,22 @@ ghost use Rattle.lb_spelling.specs.declared.symbol.Symbol.TheVariants as symbols
 ghost use Rattle.lb_spelling.specs.Tokens.{Named, Unset, Store, Device, Comma, Becomes, Stands};
 ghost use Rattle.lb_spelling.specs.Grammar.{◌then◌, TargetsAt, CommandAt};
 ghost use Rattle.lb_spelling.specs.InternalMachine.{opened, call};
-ghost use Rattle.lb_scan.specs.Words.{token_of};
+ghost use Rattle.lb_scan.specs.Tokens.{token_of};
 ghost use Rattle.lb_text.specs.InternalReading.{Reads, Fails, After, Took, coming, token_of_callee};
 
 use crate::call::{Callee, call};
-use crate::halt::Halt;
 use crate::names::{checked, more_names, name, one};
+use crate::parse_error::ParseError;
 use crate::term::{term, term_from};
-use crate::token::{sign, token};
-use lb_scan::Word;
+use crate::token::{expect_token, sign};
+use lb_scan::Token;
 use lb_spelling::Symbol;
 use lb_syntax::{Action, Cmd, Expr, Name, Width};
 use sqlite_items::Items;
 use std::alloc::Global;
 
-/// The `unset` whose word was read, and what follows it.
-pub fn unset(alloc: Global, depth: u32, bytes: &[u8]) -> Result<(Cmd, &[u8]), Halt>
+/// The `unset` whose keyword was read, and what follows it.
+pub fn unset(alloc: Global, depth: u32, bytes: &[u8]) -> Result<(Cmd, &[u8]), ParseError>
     requires { depth ≤ most_brackets }
     ensures found { IfOk result (λ r. Reads depth (symbols.Name ∷ symbols.Semicolon ∷ []) (After (Stands Unset) (CommandAt (command_of r.0))) depth [] bytes.now r.1.now) }
     ensures fault { IfErr result (λ e. Fails depth (symbols.Name ∷ symbols.Semicolon ∷ []) bytes.now e) }
@@ -31,8 +31,8 @@ pub fn unset(alloc: Global, depth: u32, bytes: &[u8]) -> Result<(Cmd, &[u8]), Ha
     Ok((Cmd::Unset { target }, rest))
 }
 
-/// The store whose word was read, and what follows it.
-pub fn store(alloc: Global, depth: u32, width: Width, bytes: &[u8]) -> Result<(Cmd, &[u8]), Halt>
+/// The store whose keyword was read, and what follows it.
+pub fn store(alloc: Global, depth: u32, width: Width, bytes: &[u8]) -> Result<(Cmd, &[u8]), ParseError>
     requires { depth ≤ most_brackets }
     ensures found { IfOk result (λ r. Reads depth (symbols.OpenParen ∷ symbols.Expr ∷ symbols.Comma ∷ symbols.Expr ∷ symbols.CloseParen ∷ symbols.Semicolon ∷ []) (After (Stands (Store width)) (CommandAt (command_of r.0))) depth [] bytes.now r.1.now) }
     ensures fault { IfErr result (λ e. Fails depth (symbols.OpenParen ∷ symbols.Expr ∷ symbols.Comma ∷ symbols.Expr ∷ symbols.CloseParen ∷ symbols.Semicolon ∷ []) bytes.now e) }
@@ -60,7 +60,7 @@ pub fn call_of(
     targets: Items<Name>,
     callee: Callee,
     bytes: &[u8],
-) -> Result<(Cmd, &[u8]), Halt>
+) -> Result<(Cmd, &[u8]), ParseError>
     requires { depth ≤ most_brackets }
     ensures found { IfOk result (λ r. Reads depth call (After (TargetsAt targets then Stands (token_of_callee callee)) (CommandAt (command_of r.0))) depth [] bytes.now r.1.now) }
     ensures fault { IfErr result (λ e. Fails depth call bytes.now e) }
@@ -70,16 +70,16 @@ pub fn call_of(
 }
 
 /// The command whose first name was read, and what follows it.
-pub fn named(alloc: Global, depth: u32, first: Name, bytes: &[u8]) -> Result<(Cmd, &[u8]), Halt>
+pub fn named(alloc: Global, depth: u32, first: Name, bytes: &[u8]) -> Result<(Cmd, &[u8]), ParseError>
     requires { depth ≤ most_brackets }
     ensures found { IfOk result (λ r. Reads depth (symbols.AfterName ∷ []) (After (Stands (Named first)) (CommandAt (command_of r.0))) depth [] bytes.now r.1.now) }
     ensures fault { IfErr result (λ e. Fails depth (symbols.AfterName ∷ []) bytes.now e) }
 {
-    let (word, rest) = token(Symbol::AfterName, depth, bytes)?;
-    match word {
-        Word::Becomes => assignment(alloc, depth, first, rest),
-        Word::Comma => several(alloc, depth, first, rest),
-        Word::OpenParen => call(
+    let (token, rest) = expect_token(Symbol::AfterName, depth, bytes)?;
+    match token {
+        Token::Becomes => assignment(alloc, depth, first, rest),
+        Token::Comma => call_of_targets(alloc, depth, first, rest),
+        Token::OpenParen => call(
             alloc,
             depth + 1,
             Items::new(alloc),
@@ -91,7 +91,7 @@ pub fn named(alloc: Global, depth: u32, first: Name, bytes: &[u8]) -> Result<(Cm
 }
 
 // The call of several targets, of which the first was read, and the comma behind it.
-fn several(alloc: Global, depth: u32, first: Name, bytes: &[u8]) -> Result<(Cmd, &[u8]), Halt>
+fn call_of_targets(alloc: Global, depth: u32, first: Name, bytes: &[u8]) -> Result<(Cmd, &[u8]), ParseError>
     requires { depth ≤ most_brackets }
     ensures found { IfOk result (λ r. Reads depth (symbols.Name ∷ symbols.MoreTargets ∷ []) (After (Stands (Named first) then Stands Comma) (CommandAt (command_of r.0))) depth [] bytes.now r.1.now) }
     ensures fault { IfErr result (λ e. Fails depth (symbols.Name ∷ symbols.MoreTargets ∷ []) bytes.now e) }
@@ -105,36 +105,36 @@ fn several(alloc: Global, depth: u32, first: Name, bytes: &[u8]) -> Result<(Cmd,
 }
 
 // What is called, and what follows it.
-fn callee(alloc: Global, depth: u32, bytes: &[u8]) -> Result<(Callee, &[u8]), Halt>
+fn callee(alloc: Global, depth: u32, bytes: &[u8]) -> Result<(Callee, &[u8]), ParseError>
     requires { depth ≤ most_brackets }
     ensures found { IfOk result (λ r. Reads depth (symbols.Callee ∷ []) (Stands (token_of_callee r.0)) depth call bytes.now r.1.now) }
     ensures fault { IfErr result (λ e. Fails depth (symbols.Callee ∷ []) bytes.now e) }
 {
-    let (word, rest) = token(Symbol::Callee, depth, bytes)?;
-    match word {
-        Word::Name(spelling) => Ok((Callee::Function(checked(alloc, spelling)?), rest)),
-        Word::Device(action) => Ok((Callee::Device(action), rest)),
+    let (token, rest) = expect_token(Symbol::Callee, depth, bytes)?;
+    match token {
+        Token::Name(spelling) => Ok((Callee::Function(checked(alloc, spelling)?), rest)),
+        Token::Device(action) => Ok((Callee::Device(action), rest)),
         _ => unreachable!(),
     }
 }
 
 // The command that sets one variable, from behind its `=` on.
-fn assignment(alloc: Global, depth: u32, target: Name, bytes: &[u8]) -> Result<(Cmd, &[u8]), Halt>
+fn assignment(alloc: Global, depth: u32, target: Name, bytes: &[u8]) -> Result<(Cmd, &[u8]), ParseError>
     requires { depth ≤ most_brackets }
     ensures found { IfOk result (λ r. Reads depth (symbols.Source ∷ []) (After (Stands (Named target) then Stands Becomes) (CommandAt (command_of r.0))) depth [] bytes.now r.1.now) }
     ensures fault { IfErr result (λ e. Fails depth (symbols.Source ∷ []) bytes.now e) }
 {
-    let (word, rest) = token(Symbol::Source, depth, bytes)?;
-    match word {
-        Word::Device(action) => call_of(
+    let (token, rest) = expect_token(Symbol::Source, depth, bytes)?;
+    match token {
+        Token::Device(action) => call_of(
             alloc,
             depth,
             one(alloc, target)?,
             Callee::Device(action),
             rest,
         ),
-        Word::Name(spelling) => from_name(alloc, depth, target, checked(alloc, spelling)?, rest),
-        _ => from_term(alloc, depth, target, word, rest),
+        Token::Name(spelling) => from_name(alloc, depth, target, checked(alloc, spelling)?, rest),
+        _ => from_term(alloc, depth, target, token, rest),
     }
 }
 
@@ -145,21 +145,21 @@ fn from_name(
     target: Name,
     source: Name,
     bytes: &[u8],
-) -> Result<(Cmd, &[u8]), Halt>
+) -> Result<(Cmd, &[u8]), ParseError>
     requires { depth ≤ most_brackets }
     ensures found { IfOk result (λ r. Reads depth (symbols.AfterSource ∷ []) (After (Stands (Named target) then Stands Becomes then Stands (Named source)) (CommandAt (command_of r.0))) depth [] bytes.now r.1.now) }
     ensures fault { IfErr result (λ e. Fails depth (symbols.AfterSource ∷ []) bytes.now e) }
 {
-    let (word, rest) = token(Symbol::AfterSource, depth, bytes)?;
-    match word {
-        Word::Semicolon => Ok((
+    let (token, rest) = expect_token(Symbol::AfterSource, depth, bytes)?;
+    match token {
+        Token::Semicolon => Ok((
             Cmd::Set {
                 target,
                 value: Expr::Var(source),
             },
             rest,
         )),
-        Word::OpenParen => call(
+        Token::OpenParen => call(
             alloc,
             depth + 1,
             one(alloc, target)?,
@@ -175,15 +175,15 @@ fn from_term<'a>(
     alloc: Global,
     depth: u32,
     target: Name,
-    word: Word<'a>,
+    token: Token<'a>,
     bytes: &'a [u8],
-) -> Result<(Cmd, &'a [u8]), Halt>
+) -> Result<(Cmd, &'a [u8]), ParseError>
     requires depth { depth ≤ most_brackets }
-    requires took { Took depth symbols.Expr (token_of word) bytes.now }
-    ensures found { IfOk result (λ r. Reads (opened (token_of word.entry) depth) (coming symbols.Expr (token_of word.entry) ++ symbols.Semicolon ∷ []) (After (Stands (Named target) then Stands Becomes then Stands (token_of word.entry)) (CommandAt (command_of r.0))) depth [] bytes.now r.1.now) }
-    ensures fault { IfErr result (λ e. Fails (opened (token_of word.entry) depth) (coming symbols.Expr (token_of word.entry) ++ symbols.Semicolon ∷ []) bytes.now e) }
+    requires took { Took depth symbols.Expr (token_of token) bytes.now }
+    ensures found { IfOk result (λ r. Reads (opened (token_of token.entry) depth) (coming symbols.Expr (token_of token.entry) ++ symbols.Semicolon ∷ []) (After (Stands (Named target) then Stands Becomes then Stands (token_of token.entry)) (CommandAt (command_of r.0))) depth [] bytes.now r.1.now) }
+    ensures fault { IfErr result (λ e. Fails (opened (token_of token.entry) depth) (coming symbols.Expr (token_of token.entry) ++ symbols.Semicolon ∷ []) bytes.now e) }
 {
-    let (value, rest) = term_from(alloc, depth, word, bytes)?;
+    let (value, rest) = term_from(alloc, depth, token, bytes)?;
     let rest = sign(Symbol::Semicolon, depth, rest)?;
     Ok((Cmd::Set { target, value }, rest))
 }

@@ -6,13 +6,13 @@ ghost use Rattle.lb_spelling.specs.declared.symbol.Symbol.TheVariants as symbols
 ghost use Rattle.lb_spelling.specs.Tokens.{OpenParen, Load, Sign, Stands};
 ghost use Rattle.lb_spelling.specs.Grammar.{TermAt};
 ghost use Rattle.lb_spelling.specs.InternalMachine.{next, opened};
-ghost use Rattle.lb_scan.specs.Words.{token_of};
+ghost use Rattle.lb_scan.specs.Tokens.{token_of};
 ghost use Rattle.lb_text.specs.InternalReading.{Reads, Fails, ReadsFrom, FailsFrom, Took, After};
 
-use crate::halt::Halt;
 use crate::names::checked;
-use crate::token::{sign, token};
-use lb_scan::Word;
+use crate::parse_error::ParseError;
+use crate::token::{expect_token, sign};
+use lb_scan::Token;
 use lb_spelling::Symbol;
 use lb_syntax::{Expr, Op, Width};
 use sqlite_items::Boxed;
@@ -20,40 +20,40 @@ use std::alloc::Global;
 
 /// The expression at the front, and what follows it.
 #[cycle(term)]
-pub fn term(alloc: Global, depth: u32, bytes: &[u8]) -> Result<(Expr, &[u8]), Halt>
+pub fn term(alloc: Global, depth: u32, bytes: &[u8]) -> Result<(Expr, &[u8]), ParseError>
     requires { depth ≤ most_brackets }
     ensures found { IfOk result (λ r. Reads depth (symbols.Expr ∷ []) (TermAt (term_of r.0)) depth [] bytes.now r.1.now) }
     ensures fault { IfErr result (λ e. Fails depth (symbols.Expr ∷ []) bytes.now e) }
 {
-    let (word, rest) = token(Symbol::Expr, depth, bytes)?;
-    term_from(alloc, depth, word, rest)
+    let (token, rest) = expect_token(Symbol::Expr, depth, bytes)?;
+    term_from(alloc, depth, token, rest)
 }
 
-/// The expression whose first token is `word`, which was read, and what follows it.
+/// The expression whose first token is `token`, which was read, and what follows it.
 #[cycle(term)]
 pub fn term_from<'a>(
     alloc: Global,
     depth: u32,
-    word: Word<'a>,
+    token: Token<'a>,
     bytes: &'a [u8],
-) -> Result<(Expr, &'a [u8]), Halt>
+) -> Result<(Expr, &'a [u8]), ParseError>
     requires depth { depth ≤ most_brackets }
-    requires took { Took depth symbols.Expr (token_of word) bytes.now }
-    ensures found { IfOk result (λ r. ReadsFrom depth symbols.Expr (token_of word.entry) (TermAt (term_of r.0)) depth [] bytes.now r.1.now) }
-    ensures fault { IfErr result (λ e. FailsFrom depth symbols.Expr (token_of word.entry) bytes.now e) }
+    requires took { Took depth symbols.Expr (token_of token) bytes.now }
+    ensures found { IfOk result (λ r. ReadsFrom depth symbols.Expr (token_of token.entry) (TermAt (term_of r.0)) depth [] bytes.now r.1.now) }
+    ensures fault { IfErr result (λ e. FailsFrom depth symbols.Expr (token_of token.entry) bytes.now e) }
 {
-    match word {
-        Word::Number(value) => Ok((Expr::Literal(value), bytes)),
-        Word::Name(spelling) => Ok((Expr::Var(checked(alloc, spelling)?), bytes)),
-        Word::Load(width) => load(alloc, depth, width, bytes),
-        Word::OpenParen => operation(alloc, depth + 1, bytes),
+    match token {
+        Token::Number(value) => Ok((Expr::Literal(value), bytes)),
+        Token::Name(spelling) => Ok((Expr::Var(checked(alloc, spelling)?), bytes)),
+        Token::Load(width) => load(alloc, depth, width, bytes),
+        Token::OpenParen => operation(alloc, depth + 1, bytes),
         _ => unreachable!(),
     }
 }
 
-// The load whose word was read.
+// The load whose keyword was read.
 #[cycle(term)]
-fn load(alloc: Global, depth: u32, width: Width, bytes: &[u8]) -> Result<(Expr, &[u8]), Halt>
+fn load(alloc: Global, depth: u32, width: Width, bytes: &[u8]) -> Result<(Expr, &[u8]), ParseError>
     requires { depth ≤ most_brackets }
     ensures found { IfOk result (λ r. Reads depth (symbols.OpenParen ∷ symbols.Expr ∷ symbols.CloseParen ∷ []) (After (Stands (Load width)) (TermAt (term_of r.0))) depth [] bytes.now r.1.now) }
     ensures fault { IfErr result (λ e. Fails depth (symbols.OpenParen ∷ symbols.Expr ∷ symbols.CloseParen ∷ []) bytes.now e) }
@@ -67,7 +67,7 @@ fn load(alloc: Global, depth: u32, width: Width, bytes: &[u8]) -> Result<(Expr, 
 
 // The operation whose first bracket, the innermost that is open, was read.
 #[cycle(term)]
-fn operation(alloc: Global, depth: u32, bytes: &[u8]) -> Result<(Expr, &[u8]), Halt>
+fn operation(alloc: Global, depth: u32, bytes: &[u8]) -> Result<(Expr, &[u8]), ParseError>
     requires some { 1 ≤ depth }
     requires few { depth ≤ most_brackets }
     ensures found { IfOk result (λ r. Reads depth (symbols.Expr ∷ symbols.Sign ∷ symbols.Expr ∷ symbols.CloseParen ∷ []) (After (Stands OpenParen) (TermAt (term_of r.0))) (depth - 1) [] bytes.now r.1.now) }
@@ -83,12 +83,12 @@ fn operation(alloc: Global, depth: u32, bytes: &[u8]) -> Result<(Expr, &[u8]), H
 }
 
 // The sign of an operation at the front, and what follows it.
-fn operator(depth: u32, bytes: &[u8]) -> Result<(Op, &[u8]), Halt>
+fn operator(depth: u32, bytes: &[u8]) -> Result<(Op, &[u8]), ParseError>
     requires { depth ≤ most_brackets }
     ensures found { IfOk result (λ r. Reads depth (symbols.Sign ∷ []) (Stands (Sign r.0)) depth [] bytes.now r.1.now) }
     ensures fault { IfErr result (λ e. Fails depth (symbols.Sign ∷ []) bytes.now e) }
 {
-    let (word, rest) = token(Symbol::Sign, depth, bytes)?;
-    let Word::Sign(op) = word else { unreachable!() };
+    let (token, rest) = expect_token(Symbol::Sign, depth, bytes)?;
+    let Token::Sign(op) = token else { unreachable!() };
     Ok((op, rest))
 }

@@ -8,10 +8,10 @@ pub returns-in-None-clause-found : goal.returns-in-None-clause-found
 returns-in-None-clause-found c = IfOk-weaker c.digits.result _ _ (λ r p. reads_decimal c.args.bytes.now r.0 r.1.now c.in-None.ensures p) c.digits.ensures.found
 
 pub returns-in-None-clause-fault : goal.returns-in-None-clause-fault
-returns-in-None-clause-fault c = IfErr-weaker c.digits.result _ _ (λ stop p. decimal_fault c.args.bytes.now stop c.in-None.ensures p) c.digits.ensures.fault
+returns-in-None-clause-fault c = IfErr-weaker c.digits.result _ _ (λ error p. decimal_fault c.args.bytes.now error c.in-None.ensures p) c.digits.ensures.fault
 
 pub returns-in-Some-clause-found : goal.returns-in-Some-clause-found
 returns-in-Some-clause-found c = IfOk-weaker c.hexadecimal.result _ _ (λ r p. subst (λ (s : List ℕ). ReadsNumber s r.0 r.1.now) (sym c.in-Some.ensures) (reads_hex c.in-Some.rest.now r.0 r.1.now p)) c.hexadecimal.ensures.found
 
 pub returns-in-Some-clause-fault : goal.returns-in-Some-clause-fault
-returns-in-Some-clause-fault c = IfErr-weaker c.hexadecimal.result _ _ (λ stop p. subst (λ (s : List ℕ). NumberFault s stop) (sym c.in-Some.ensures) (hexadecimal_fault c.in-Some.rest.now stop p)) c.hexadecimal.ensures.fault
+returns-in-Some-clause-fault c = IfErr-weaker c.hexadecimal.result _ _ (λ error p. subst (λ (s : List ℕ). NumberFault s error) (sym c.in-Some.ensures) (hexadecimal_fault c.in-Some.rest.now error p)) c.hexadecimal.ensures.fault

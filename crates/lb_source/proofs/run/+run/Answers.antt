@@ -96,7 +96,7 @@ pub enter-returns-in-On-clause-follows : goal.enter-returns-in-On-clause-follows
 enter-returns-in-On-clause-follows t c =
     let p = callables (program_of c.args.program.now) c.args.layout.now.frames in
     let fuel : c.begin.new.m.fuel ≡ c.args.m.now.fuel - 1 = let e = c.begin.ensures.fuel in omega arith in
-    entry_goes p c.args.name.now c.args.vs.now c.args.targets.now c.in-Some.function.now c.in-Some.frame.now c.args.m.now c.begin.new.m c.run_block.new.m c.in-Some.ensures.is (c.args.m.now.fuel - 1) (is_suc _ c.if-m-eq0.false) fuel c.in_ok-caller.ensures.begins c.leave.result (record c.run_block.new.m { stack = c.args.m.now.stack }) c.leave.new.m c.in_ok-caller.caller.items (rw (c.in-On.is, c.as_slice.ensures) at c.in_ok-flow.ensures.follows) c.in_ok-caller.ensures.caller refl (rw c.as_slice-in-On.ensures at c.leave.ensures.follows)
+    entry_goes p c.args.name.now c.args.vs.now c.args.targets.now c.in-Some.function.now c.in-Some.frame.now c.args.m.now c.begin.new.m c.run_block.new.m c.in-Some.ensures.is (c.args.m.now.fuel - 1) (is_suc _ c.if-m-eq0.false) fuel c.in_ok-caller.ensures.begins c.return_to.result (record c.run_block.new.m { stack = c.args.m.now.stack }) c.return_to.new.m c.in_ok-caller.caller.items (rw (c.in-On.is, c.as_slice.ensures) at c.in_ok-flow.ensures.follows) c.in_ok-caller.ensures.caller refl (rw c.as_slice-in-On.ensures at c.return_to.ensures.follows)
 
 pub run_allocated-returns-in-End-clause-follows : goal.run_allocated-returns-in-End-clause-follows
 run_allocated-returns-in-End-clause-follows t c =

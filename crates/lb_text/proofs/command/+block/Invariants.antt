@@ -1,7 +1,7 @@
 use Rattle.std.proofs.Common.{◌+◌, ◌-◌, ◌*◌, length}
 use Rattle.std.specs.Prelude.{map}
 use Rattle.lb_syntax.specs.Tree.{command_of}
-use Rattle.lb_scan.specs.Words.{token_of}
+use Rattle.lb_scan.specs.Tokens.{token_of}
 use Rattle.lb_text.proofs.Blocks.{CommandsSoFar}
 use Rattle.lb_text.proofs.command.+block.Given as goal
 
@@ -29,8 +29,8 @@ decreases-repetition l = 10 * (64 - l.depth) + 4
 abbrev pub decreases-allocation : goal.decreases-allocation
 decreases-allocation l = 10 * (64 - l.depth) + 4
 
-abbrev pub decreases-commands-loop-word : goal.decreases-commands-loop-word
-decreases-commands-loop-word l = length l.rest
+abbrev pub decreases-commands-loop-token : goal.decreases-commands-loop-token
+decreases-commands-loop-token l = length l.rest
 
-abbrev pub invariant-commands-loop-word : goal.invariant-commands-loop-word
-invariant-commands-loop-word l = CommandsSoFar l.depth (map command_of l.commands) (token_of l.word) l.bytes l.rest
+abbrev pub invariant-commands-loop-token : goal.invariant-commands-loop-token
+invariant-commands-loop-token l = CommandsSoFar l.depth (map command_of l.commands) (token_of l.token) l.bytes l.rest

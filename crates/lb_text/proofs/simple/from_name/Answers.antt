@@ -12,10 +12,10 @@ use Rattle.lb_text.proofs.simple.from_name.Goals as goal
 pub returns-in-Semicolon-clause-found : goal.returns-in-Semicolon-clause-found
 returns-in-Semicolon-clause-found c =
     let source = exprs.Var c.args.source in
-    rw (says_set (commands.Set c.args.target source) c.args.target source refl, says_var source c.args.source refl) (name_set c.args.target c.args.source c.requires (rw c.in-Semicolon.is at c.in_ok-word.ensures.found))
+    rw (says_set (commands.Set c.args.target source) c.args.target source refl, says_var source c.args.source refl) (name_set c.args.target c.args.source c.requires (rw c.in-Semicolon.is at c.in_ok-token.ensures.found))
 
 pub returns-in_ok-one-in-OpenParen-clause-found : goal.returns-in_ok-one-in-OpenParen-clause-found
-returns-in_ok-one-in-OpenParen-clause-found c = IfOk-weaker c.call.result _ _ (λ r p. name_called c.args.target c.args.source (CommandAt (command_of r.0)) c.requires c.in_ok-one-in-OpenParen.ensures (rw c.in-OpenParen.is at c.in_ok-word.ensures.found) p) c.call.ensures.found
+returns-in_ok-one-in-OpenParen-clause-found c = IfOk-weaker c.call.result _ _ (λ r p. name_called c.args.target c.args.source (CommandAt (command_of r.0)) c.requires c.in_ok-one-in-OpenParen.ensures (rw c.in-OpenParen.is at c.in_ok-token.ensures.found) p) c.call.ensures.found
 
 pub returns-in_ok-one-in-OpenParen-clause-fault : goal.returns-in_ok-one-in-OpenParen-clause-fault
-returns-in_ok-one-in-OpenParen-clause-fault c = IfErr-weaker c.call.result _ _ (λ e p. fails_all e c.requires (rw c.in-OpenParen.is at c.in_ok-word.ensures.found) p) c.call.ensures.fault
+returns-in_ok-one-in-OpenParen-clause-fault c = IfErr-weaker c.call.result _ _ (λ e p. fails_all e c.requires (rw c.in-OpenParen.is at c.in_ok-token.ensures.found) p) c.call.ensures.fault

@@ -5,9 +5,9 @@ use Rattle.lb_syntax.specs.Brackets.{most_brackets, open_after}
 use Rattle.lb_spelling.specs.InternalMachine.{next}
 use Rattle.lb_spelling.specs.Tokens.{Numeral}
 use Rattle.lb_spelling.proofs.Lexing.{any_number}
-use Rattle.lb_scan.specs.Words.{token_of}
+use Rattle.lb_scan.specs.Tokens.{token_of}
 use Rattle.lb_scan.proofs.Fronts.{Begins, digit_begins, stuck_token, takes_number, takes_word}
-use Rattle.lb_scan.proofs.tokens.token.Goals as goal
+use Rattle.lb_scan.proofs.scanner.scan_token.Goals as goal
 
 pub returns-in_err-value-clause-fault : goal.returns-in_err-value-clause-fault
 returns-in_err-value-clause-fault c =
@@ -33,4 +33,4 @@ pub returns-else-is_digit-clause-fault : goal.returns-else-is_digit-clause-fault
 returns-else-is_digit-clause-fault c =
     let begun : Begins c.args.expected c.in-Some.b true = sym c.may_begin.ensures ∙ c.if-not-may_begin.false in
     let room : open_after c.args.depth c.in-Some.b ≤ most_brackets = search rules in
-    IfErr-weaker c.word_or_sign.result _ _ (λ stop p. stuck_token c.args.expected c.args.depth c.args.bytes.now c.in-Some.b c.in-Some.field-0-1.now stop c.in-Some.ensures c.requires.token begun room p) c.word_or_sign.ensures.fault
+    IfErr-weaker c.word_or_sign.result _ _ (λ error p. stuck_token c.args.expected c.args.depth c.args.bytes.now c.in-Some.b c.in-Some.field-0-1.now error c.in-Some.ensures c.requires.token begun room p) c.word_or_sign.ensures.fault

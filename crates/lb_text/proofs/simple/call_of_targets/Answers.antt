@@ -3,7 +3,7 @@ use Rattle.std.proofs.lemmas.Result.{IfOk-weaker}
 use Rattle.lb_syntax.specs.Tree.{command_of}
 use Rattle.lb_spelling.specs.Grammar.{CommandAt}
 use Rattle.lb_text.proofs.Calls.{several_read}
-use Rattle.lb_text.proofs.simple.several.Goals as goal
+use Rattle.lb_text.proofs.simple.call_of_targets.Goals as goal
 
 pub returns-clause-found : goal.returns-clause-found
 returns-clause-found c = IfOk-weaker c.call_of.result _ _

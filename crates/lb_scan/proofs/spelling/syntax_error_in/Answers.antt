@@ -1,6 +1,6 @@
 use Rattle.std.proofs.Common.{◌≡◌, ◌∙◌, sym, arith}
 use Rattle.lb_scan.proofs.Stuck.{rest_is, spells_more, stuck_within, stuck_at_end, stuck_behind}
-use Rattle.lb_scan.proofs.spelling.stop_in.Goals as goal
+use Rattle.lb_scan.proofs.spelling.syntax_error_in.Goals as goal
 
 pub returns-then-not-begins : goal.returns-then-not-begins
 returns-then-not-begins c n k = rw (c.kind_in.ensures) (stuck_within c.args.expected c.args.bytes.now c.args.len c.loop-i.i c.requires.spelled c.requires.token c.loop-i-test.true c.loop-i.invariant (sym c.begins.ensures ∙ c.if-not-begins.true) n k)

@@ -4,31 +4,31 @@ ghost use Rattle.lb_spelling.specs.Tokens.{Outside, gap, begins_with, comment_st
 ghost use Rattle.lb_spelling.specs.InternalMachine.{Stack, ends, begins_one, next_of};
 ghost use Rattle.lb_spelling.specs.InternalParsing.{Takes, Faults};
 ghost use Rattle.lb_syntax.specs.Brackets.{most_brackets, open_after};
-ghost use Rattle.lb_scan.specs.Words.{token_of};
+ghost use Rattle.lb_scan.specs.Tokens.{token_of};
 ghost use Rattle.lb_scan.specs.InternalScanning.{BeginsToken, begins_with_digit, IsStuckIn, IsTaken, ReadsWord};
 
 use crate::bytes::{is_digit, unexpected};
 use crate::gap::{first, skip};
 use crate::number::number;
-use crate::spelling::{begins, lexeme, spelling_len, stop_in};
-use crate::stop::Stop;
-use crate::word::{Word, takes};
+use crate::spelling::{begins, lexeme, spelling_len, syntax_error_in};
+use crate::syntax_error::SyntaxError;
+use crate::token::{Token, takes};
 use lb_spelling::{Symbol, TextKind};
 
 /// The next token, which has to be one that `expected` takes, and the bytes behind it.
 /// `depth` brackets are open before it.
-pub fn scan(expected: Symbol, depth: u32, bytes: &[u8]) -> Result<(Word, &[u8]), Stop>
+pub fn scan(expected: Symbol, depth: u32, bytes: &[u8]) -> Result<(Token, &[u8]), SyntaxError>
     requires depth { depth ≤ most_brackets }
     // Something has to come: all but the functions of a program.
     requires more { (k : Stack) → ends (expected ∷ k) ≡ false }
     // The token stands at the front, `expected` takes it, and at most 64 brackets are open behind it.
     ensures found { IfOk result (λ r. Takes depth expected (token_of r.0) bytes.now r.1.now) }
     // The kind and the place of the fault, whatever has to come behind `expected`.
-    ensures fault { IfErr result (λ stop. Faults depth expected bytes.now stop.kind stop.left) }
+    ensures fault { IfErr result (λ error. Faults depth expected bytes.now error.kind error.left) }
 {
     match scan_or_end(expected, depth, bytes)? {
         Some(found) => Ok(found),
-        None => Err(Stop {
+        None => Err(SyntaxError {
             kind: TextKind::Ended,
             left: 0,
         }),
@@ -40,16 +40,16 @@ pub fn scan_or_end(
     expected: Symbol,
     depth: u32,
     bytes: &[u8],
-) -> Result<Option<(Word, &[u8])>, Stop>
+) -> Result<Option<(Token, &[u8])>, SyntaxError>
     requires { depth ≤ most_brackets }
     ensures found { IfOk result (λ o. MatchOption o (gap true Outside bytes.now ≡ true) (λ r. Takes depth expected (token_of r.0) bytes.now r.1.now)) }
-    ensures fault { IfErr result (λ stop. Faults depth expected bytes.now stop.kind stop.left) }
+    ensures fault { IfErr result (λ error. Faults depth expected bytes.now error.kind error.left) }
 {
     let start = skip(bytes);
     if start.is_empty() {
         return Ok(None);
     }
-    let found = token(expected, depth, start)?;
+    let found = scan_token(expected, depth, start)?;
     Ok(Some(found))
 }
 
@@ -58,7 +58,7 @@ fn may_begin(expected: Symbol, b: u8) -> bool
     ensures { result ≡ (begins_one expected (b ∷ []) || begins_with (b ∷ []) comment_start) }
 {
     if is_digit(b) {
-        takes(expected, &Word::Number(0))
+        takes(expected, &Token::Number(0))
     } else {
         begins(expected, &[b])
     }
@@ -73,61 +73,61 @@ fn has_room(depth: u32, b: u8) -> bool
 }
 
 // The word or sign at the front, which begins as `expected` may.
-fn word_or_sign(expected: Symbol, bytes: &[u8]) -> Result<(Word, &[u8]), Stop>
+fn word_or_sign(expected: Symbol, bytes: &[u8]) -> Result<(Token, &[u8]), SyntaxError>
     requires some { 0 < length bytes.now }
     requires token { BeginsToken bytes.now }
     requires no_digit { begins_with_digit 10 bytes.now ≡ false }
     requires begun { (begins_one expected (take 1 bytes.now) || begins_with (take 1 bytes.now) comment_start) ≡ true }
     ensures found { IfOk result (λ r. ReadsWord expected bytes.now (token_of r.0) r.1.now) }
-    ensures fault { IfErr result (λ stop. IsStuckIn expected bytes.now stop) }
+    ensures fault { IfErr result (λ error. IsStuckIn expected bytes.now error) }
 {
     let len = spelling_len(bytes);
     let (spelling, rest) = bytes.split_at(len);
-    match word_for(expected, spelling) {
-        Some(word) => Ok((word, rest)),
-        None => Err(stop_in(expected, bytes, len)),
+    match token_for(expected, spelling) {
+        Some(token) => Ok((token, rest)),
+        None => Err(syntax_error_in(expected, bytes, len)),
     }
 }
 
 // The word or sign of this spelling, if `expected` takes it.
-fn word_for(expected: Symbol, spelling: &[u8]) -> Option<Word>
+fn token_for(expected: Symbol, spelling: &[u8]) -> Option<Token>
     requires { begins_with_digit 10 spelling.now ≡ false }
-    ensures { MatchOption result (next_of expected (lexeme spelling.now) ≡ None) (λ word. IsTaken expected spelling.now (token_of word)) }
+    ensures { MatchOption result (next_of expected (lexeme spelling.now) ≡ None) (λ token. IsTaken expected spelling.now (token_of token)) }
 {
-    let word = lexeme(spelling)?;
-    if takes(expected, &word) {
-        Some(word)
+    let token = lexeme(spelling)?;
+    if takes(expected, &token) {
+        Some(token)
     } else {
         None
     }
 }
 
 // The token at the front, where no blank and no comment stands.
-fn token(expected: Symbol, depth: u32, bytes: &[u8]) -> Result<(Word, &[u8]), Stop>
+fn scan_token(expected: Symbol, depth: u32, bytes: &[u8]) -> Result<(Token, &[u8]), SyntaxError>
     requires depth { depth ≤ most_brackets }
     requires some { 0 < length bytes.now }
     requires token { BeginsToken bytes.now }
     ensures found { IfOk result (λ r. Takes depth expected (token_of r.0) bytes.now r.1.now) }
-    ensures fault { IfErr result (λ stop. Faults depth expected bytes.now stop.kind stop.left) }
+    ensures fault { IfErr result (λ error. Faults depth expected bytes.now error.kind error.left) }
 {
     let Some((b, _)) = first(bytes) else {
         unreachable!()
     };
     if !may_begin(expected, b) {
-        return Err(Stop {
+        return Err(SyntaxError {
             kind: unexpected(b),
             left: bytes.len(),
         });
     }
     if !has_room(depth, b) {
-        return Err(Stop {
+        return Err(SyntaxError {
             kind: TextKind::TooDeep,
             left: bytes.len(),
         });
     }
     if is_digit(b) {
         let (value, rest) = number(bytes)?;
-        Ok((Word::Number(value), rest))
+        Ok((Token::Number(value), rest))
     } else {
         word_or_sign(expected, bytes)
     }

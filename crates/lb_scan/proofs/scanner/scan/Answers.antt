@@ -1,5 +1,5 @@
 use Rattle.lb_scan.proofs.Fronts.{ended_fault}
-use Rattle.lb_scan.proofs.tokens.scan.Goals as goal
+use Rattle.lb_scan.proofs.scanner.scan.Goals as goal
 
 pub returns-in-None-clause-fault : goal.returns-in-None-clause-fault
 returns-in-None-clause-fault c = ended_fault c.args.expected c.args.depth c.args.bytes.now c.requires.depth (rw c.in-None.is at c.in_ok-found.ensures.found) c.requires.more

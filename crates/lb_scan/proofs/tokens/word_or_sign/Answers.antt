@@ -1,6 +1,0 @@
-use Rattle.lb_scan.specs.Words.{token_of}
-use Rattle.lb_scan.proofs.Fronts.{reads_word}
-use Rattle.lb_scan.proofs.tokens.word_or_sign.Goals as goal
-
-pub returns-in-Some-clause-found : goal.returns-in-Some-clause-found
-returns-in-Some-clause-found c = reads_word c.args.expected c.args.bytes.now c.spelling_len-len.result c.split_at.result.0.now c.split_at.result.1.now (token_of c.in-Some.word) c.spelling_len-len.ensures c.requires.no_digit c.split_at.ensures.front c.split_at.ensures.back c.in-Some.ensures
