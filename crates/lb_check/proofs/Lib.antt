@@ -4,10 +4,11 @@ pub mod NameSets
 pub mod NameCounts
 pub mod NoFaults
 pub mod NamesKept
+pub mod CommandLists
 pub mod CommandsKept
-pub mod PlacesKept
+pub mod FunctionsKept
 pub mod RulesKept
 pub mod Settled
 pub mod Refusals
-pub mod CallPaths
+pub mod CallGraph
 mod OneFault

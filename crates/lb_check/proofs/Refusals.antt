@@ -17,7 +17,7 @@ use Rattle.lb_check.specs.Faults.{function_faults}
 use Rattle.lb_check.specs.Verdict.{Question, Keeps, NoRecursion, FitsStack, form_rules, need_rules, questions, IsKept, IsFirst, IsBroken, IsFirstBroken, IsFirstFault, IsRefusal}
 use Rattle.lb_check.specs.InternalVerdict.{Settles}
 use Rattle.lb_check.proofs.NoFaults.{all_from_none}
-use Rattle.lb_check.proofs.PlacesKept.{frame_kept}
+use Rattle.lb_check.proofs.FunctionsKept.{frame_kept}
 use Rattle.lb_check.proofs.RulesKept.{rules_kept, kept_rules}
 use Rattle.lb_check.proofs.Settled.{broken_front, broken_behind, kept_both}
 

@@ -18,7 +18,8 @@ use Rattle.lb_check.specs.Faults.{function_faults, command_faults}
 use Rattle.lb_check.specs.Verdict.{IsKept, questions}
 use Rattle.lb_check.proofs.NoFaults.{where_none, none_where, not_false, false_not, over, within, all_from_none, none_from_all}
 use Rattle.lb_check.proofs.NamesKept.{distinct_kept, kept_distinct, map_none, none_map, contains_among, among_contains}
-use Rattle.lb_check.proofs.PlacesKept.{entry_kept, kept_entry, names_kept, kept_names, counts_kept, kept_counts, frame_kept, kept_frame, sizes_kept, kept_sizes, callees_kept, kept_callees, arities_kept, kept_arities, targets_kept, kept_targets, shapes_kept, kept_shapes, IsKnown, AllFit, HasTargets}
+use Rattle.lb_check.proofs.FunctionsKept.{entry_kept, kept_entry, names_kept, kept_names, counts_kept, kept_counts, frame_kept, kept_frame}
+use Rattle.lb_check.proofs.CommandsKept.{sizes_kept, kept_sizes, callees_kept, kept_callees, arities_kept, kept_arities, targets_kept, kept_targets, shapes_kept, kept_shapes, IsKnown, AllFit, HasTargets}
 
 module _ (p : List Procedure) where
   -- the faults of a function by a rule on commands

@@ -3,6 +3,6 @@ pub mod Order
 pub mod Faults
 pub mod Verdict
 pub mod InternalVerdict
-pub mod InternalPlaces
+pub mod InternalCallGraph
 pub mod Needed
 pub mod Laws

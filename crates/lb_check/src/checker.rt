@@ -10,7 +10,7 @@ use crate::checked::{Checked, Needs};
 use crate::fault::CheckError;
 use crate::needs::code_need;
 use crate::rules::{FORM_RULES, NEED_RULES, check_rules};
-use crate::stack::{check_cycles, check_stack, graph_of};
+use crate::call_graph::{check_cycles, check_stack, graph_of};
 use lb_syntax::{Function, Program};
 use std::alloc::Global;
 

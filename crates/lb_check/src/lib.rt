@@ -1,6 +1,7 @@
 //! The rules of the language, and what a program that keeps them needs.
 #![tactic(auto)]
 
+mod call_graph;
 mod checked;
 mod checker;
 mod commands;
@@ -13,7 +14,6 @@ mod names;
 mod needs;
 mod rule;
 mod rules;
-mod stack;
 
 pub use checked::{Checked, Needs};
 pub use checker::check;

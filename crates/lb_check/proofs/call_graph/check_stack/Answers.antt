@@ -1,7 +1,7 @@
 use Rattle.std.proofs.Common.{inl, map, refl, ◌∙◌}
 use Rattle.lb_syntax.specs.Tree.{procedure_of}
-use Rattle.lb_check.proofs.CallPaths.{stack_need}
-use Rattle.lb_check.proofs.stack.check_stack.Goals as goal
+use Rattle.lb_check.proofs.CallGraph.{stack_need}
+use Rattle.lb_check.proofs.call_graph.check_stack.Goals as goal
 
 pub returns-then-bytes-gt-MOST_STACK-clause-over : goal.returns-then-bytes-gt-MOST_STACK-clause-over
 returns-then-bytes-gt-MOST_STACK-clause-over c =

@@ -1,7 +1,7 @@
 use Rattle.std.proofs.Common.{◌≡◌, ◌++◌, drop, map}
 use Rattle.lb_syntax.specs.Tree.{procedure_of}
-use Rattle.lb_check.specs.InternalPlaces.{places_from}
-use Rattle.lb_check.proofs.stack.add_places.Given as goal
+use Rattle.lb_check.specs.InternalCallGraph.{places_from}
+use Rattle.lb_check.proofs.call_graph.add_places.Given as goal
 
 -- the places so far, and those of what is left, are all
 abbrev pub invariant-loop-f : goal.invariant-loop-f

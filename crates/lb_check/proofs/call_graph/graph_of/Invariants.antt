@@ -1,7 +1,7 @@
 use Rattle.std.proofs.Common.{◌≡◌, ◌++◌, drop, map}
 use Rattle.lb_syntax.specs.Tree.{procedure_of}
-use Rattle.lb_check.specs.InternalPlaces.{called, call_graph}
-use Rattle.lb_check.proofs.stack.graph_of.Given as goal
+use Rattle.lb_check.specs.InternalCallGraph.{called, call_graph}
+use Rattle.lb_check.proofs.call_graph.graph_of.Given as goal
 
 -- the rows so far, and those of what is left, are the graph
 abbrev pub invariant-loop-f : goal.invariant-loop-f

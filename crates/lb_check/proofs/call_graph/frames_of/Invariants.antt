@@ -4,7 +4,7 @@ use Rattle.lb_syntax.specs.declared.limits.TheConstants.{MOST_FRAME}
 use Rattle.lb_syntax.specs.Tree.{procedure_of}
 use Rattle.lb_syntax.specs.Needs.{frame_need}
 use Rattle.lb_check.specs.Parts.{parts}
-use Rattle.lb_check.proofs.stack.frames_of.Given as goal
+use Rattle.lb_check.proofs.call_graph.frames_of.Given as goal
 
 -- the frames so far, and those of what is left, are all
 abbrev pub invariant-loop-f : goal.invariant-loop-f

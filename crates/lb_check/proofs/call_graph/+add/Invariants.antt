@@ -1,8 +1,8 @@
 use Rattle.std.proofs.Common.{◌≡◌, ◌++◌, map}
 use Rattle.lb_syntax.specs.Tree.{procedure_of, block_of}
-use Rattle.lb_check.specs.InternalPlaces.{called}
+use Rattle.lb_check.specs.InternalCallGraph.{called}
 use Rattle.lb_syntax.proofs.BlockLemmas.{rest}
-use Rattle.lb_check.proofs.stack.+add.Given as goal
+use Rattle.lb_check.proofs.call_graph.+add.Given as goal
 
 -- the places so far, and those of what is left, are all
 abbrev pub invariant-add_block-loop-c : goal.invariant-add_block-loop-c

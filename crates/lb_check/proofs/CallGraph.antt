@@ -10,7 +10,7 @@ use Rattle.lb_syntax.specs.Tree.{Procedure, Ends}
 use Rattle.lb_syntax.specs.Needs.{frame_need}
 use Rattle.lb_syntax.specs.Calls.{CallSite, call_sites, callees, IsCallPath, IsRecursive, path_need, IsStackNeed}
 use Rattle.lb_graph.specs.Paths.{successors, IsPath, IsOnCycle, IsAcyclic, path_weight, IsGreatestWeight}
-use Rattle.lb_check.specs.InternalPlaces.{places_from, called, call_graph}
+use Rattle.lb_check.specs.InternalCallGraph.{places_from, called, call_graph}
 use Rattle.lb_check.specs.Verdict.{IsFirstRecursive}
 
 -- f stands at place v

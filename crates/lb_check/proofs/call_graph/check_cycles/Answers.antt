@@ -3,8 +3,8 @@ use Rattle.std.proofs.lemmas.List.{get_or-map, length-map}
 use Rattle.lb_syntax.specs.declared.tree.Function.{Function}
 use Rattle.lb_syntax.specs.Tree.{procedure_of}
 use Rattle.lb_check.specs.declared.fault.CheckFault.TheVariants.{Recursion}
-use Rattle.lb_check.proofs.CallPaths.{none_recursive, first_recursive, cycle_inside}
-use Rattle.lb_check.proofs.stack.check_cycles.Goals as goal
+use Rattle.lb_check.proofs.CallGraph.{none_recursive, first_recursive, cycle_inside}
+use Rattle.lb_check.proofs.call_graph.check_cycles.Goals as goal
 
 pub returns-in-None-clause-settles : goal.returns-in-None-clause-settles
 returns-in-None-clause-settles c =

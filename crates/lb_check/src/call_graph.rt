@@ -8,7 +8,7 @@ ghost use Rattle.lb_syntax.specs.Calls.{IsStackNeed};
 ghost use Rattle.lb_syntax.specs.Needs.{frame_need};
 ghost use Rattle.lb_graph.specs.Paths.{IsAcyclic};
 ghost use Rattle.lb_check.specs.Parts.{parts};
-ghost use Rattle.lb_check.specs.InternalPlaces.{places_from, called, call_graph};
+ghost use Rattle.lb_check.specs.InternalCallGraph.{places_from, called, call_graph};
 ghost use Rattle.lb_check.specs.Verdict.{NoRecursion, FitsStack};
 ghost use Rattle.lb_check.specs.InternalVerdict.{Settles};
 
