@@ -1,5 +1,5 @@
 -- How long code is.
-use Rattle.std.proofs.Common.{◌≡◌, ℕ, ◌+◌, ◌*◌, ◌≤◌, nat_le, if◌then◌else◌, refl, ap, ◌∙◌, le-leb, List, [], ◌∷◌, ◌++◌, length, arith, length-append}
+use Rattle.std.proofs.Common.{◌≡◌, ℕ, ◌+◌, ◌*◌, ◌≤◌, if◌then◌else◌, ap, ◌∙◌, le-leb, List, [], ◌∷◌, ◌++◌, length, arith, length-append}
 use Rattle.lb_syntax.specs.declared.tree.Action.TheVariants.{Read, Write}
 use Rattle.lb_syntax.specs.declared.tree.Op.{Op}
 use Rattle.lb_syntax.specs.declared.tree.Op.TheVariants.{Add, Sub, Mul, Mulhuu, Divu, Remu, And, Or, Xor, Sru, Slu, Srs, Lts, Ltu, Eq}

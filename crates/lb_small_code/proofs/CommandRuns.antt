@@ -8,6 +8,10 @@ use Rattle.lb_syntax.specs.Names.{Text}
 use Rattle.lb_syntax.specs.declared.tree.Action.TheVariants.{Read, Write}
 use Rattle.lb_syntax.specs.Tree.{Term, Command, Skips, Sets, Unsets, Chooses, Repeats, Interacts, Ends, Then}
 use Rattle.lb_syntax.specs.Needs.{sites}
+use Rattle.lb_steps.proofs.MoveLemmas.{Moves, Moves-one, LeadsTo, LeadsTo-within}
+use Rattle.lb_steps.proofs.Behavior.{Behavior}
+use Rattle.lb_steps.proofs.Simulation.{Tests, Comes, arrived, starving, fits, leading, move_behind}
+use Rattle.lb_source.specs.Correct.{AreWords}
 use Rattle.lb_source.specs.Maps.{put}
 use Rattle.lb_source.specs.Run.{State, Outcome, Goes, ask, value_in, set, address_fault, Caller, run_with}
 use Rattle.lb_source.specs.declared.ends.Reason.TheVariants.{Unaligned, OutOfRange}
@@ -19,9 +23,8 @@ use Rattle.lb_small.specs.Runs.{Configuration, next_effect, moves}
 use Rattle.lb_small.proofs.StepLemmas.{run_at, plus_immediate-word, moves-sw_ram, moves-lw_device, moves-sw_device, moves-jal, moves-beq_taken, moves-beq_passed, next_effect-lw_waits}
 use Rattle.lb_small.proofs.RegisterLemmas.{with_register-same}
 use Rattle.lb_small_code.specs.Slots.{slot}
-use Rattle.lb_small_code.specs.Correct.{AreWords}
 use Rattle.lb_small_code.specs.Code.{immediate, minus, term_code, command_code, slot_offset, temporary_offset}
-use Rattle.lb_small_code.proofs.Simulation.{Moves, Moves-one, LeadsTo, Branches, Comes, arrived, starving, fits, leading, seq_comes, move_behind, value_comes, one_value_comes, two_values_comes, unless_comes, branch_comes, loop_comes}
+use Rattle.lb_small_code.proofs.SourceOutcomes.{SourceComes, fuel_of, seq_comes, value_comes, one_value_comes, two_values_comes, unless_comes, branch_comes, loop_comes}
 use Rattle.lb_small_code.proofs.CodePlaces.{HasAt, HasAt-front, HasAt-back}
 use Rattle.lb_small_code.proofs.StateRelation.{slot_address, temporary_address, Leaves-register, Matches, Matches-left, Matches-unset, Matches-set}
 use Rattle.lb_small_code.proofs.Placed.{HasTemporaries, IsPlaced}
@@ -54,7 +57,7 @@ IsWaiting code c = next_effect code c ≡ Waits
 
 -- what the code comes to
 abbrev pub CodeComes : List SmallInstr → (State → Configuration → Type 0) → ℕ → Configuration → ℕ → Outcome → Type 0
-CodeComes code = Comes (moves code) trace_of (IsWaiting code) (length code)
+CodeComes code = SourceComes (moves code) trace_of (IsWaiting code) (length code)
 
 fault_none : (b d : Bool) → (if b then (if d then None else Some OutOfRange) else Some Unaligned) ≡ None → (b && d) ≡ true
 fault_none true true h = refl
@@ -79,10 +82,12 @@ back i k j is near = plus_immediate-word (4 * i) (minus (4 * k)) (omega arith) �
 
 module _ (code : List SmallInstr) (small : length code ≤ 32768) (words : ℕ) (slots : List Text) (temporaries : ℕ) (few : words ≤ 474) (room : length slots + temporaries ≤ words) where
   -- what holds of every run at a place
-  from_at : {T : State → Configuration → Type 0} {len fuel i : ℕ} {s : State} {c : Configuration} {o : Outcome} → At words slots i s c
-      → ((registers ram : List ℕ) (n : ℕ) → Matches words slots s registers ram → CodeComes code T len (run_at i registers ram s.replies s.trace n) fuel o)
-      → CodeComes code T len c fuel o
-  from_at {T} {len} {fuel} {i} {s} {c} {o} a go = subst (λ d. CodeComes code T len d fuel o) (sym a.is) (go a.registers a.ram a.count a.matches)
+  from_at : {T : State → Configuration → Type 0} {len fuel i : ℕ} {s : State} {c : Configuration} {o : Behavior State Event} → At words slots i s c
+      → ((registers ram : List ℕ) (n : ℕ) → Matches words slots s registers ram
+      → Comes (moves code) trace_of (IsWaiting code) (length code) fuel_of T len (run_at i registers ram s.replies s.trace n) fuel o)
+      → Comes (moves code) trace_of (IsWaiting code) (length code) fuel_of T len c fuel o
+  from_at {T} {len} {fuel} {i} {s} {c} {o} a go =
+      subst (λ d. Comes (moves code) trace_of (IsWaiting code) (length code) fuel_of T len d fuel o) (sym a.is) (go a.registers a.ram a.count a.matches)
 
   -- register 5 is stored in the slot of a variable
   stored : (i n : ℕ) (registers ram : List ℕ) (x : Text) (v : ℕ) (s : State) → Matches words slots s registers ram → slice_index registers 5 ≡ v → v < 2 ^ 32
@@ -183,7 +188,7 @@ module _ (code : List SmallInstr) (small : length code ≤ 32768) (words : ℕ) 
 
   -- a jump
   pub jumps_to : (i j : ℕ) (imm : ℤ) (s : State) (c : Configuration) → slice_get code i ≡ Some (instr.Jal 0 imm) → plus_immediate (4 * i) imm ≡ 4 * j → At words slots i s c
-      → LeadsTo (moves code) (At words slots j) s c
+      → LeadsTo (moves code) (At words slots j s) c
   jumps_to i j imm s c here is a = record {
     next = run_at j a.registers a.ram s.replies s.trace (a.count + 1);
     moves = ap (moves code) a.is ∙ moves-jal code small i 0 imm j a.registers a.ram s.replies s.trace a.count here is;
@@ -194,28 +199,32 @@ module _ (code : List SmallInstr) (small : length code ≤ 32768) (words : ℕ) 
   branched : (i over j n : ℕ) (registers ram : List ℕ) (s : State) (v : ℕ) → Matches words slots s registers ram → slice_index registers 5 ≡ v → slice_index registers 0 ≡ 0
       → slice_get code i ≡ Some (instr.Beq 5 0 (immediate (4 * over))) → i + over ≡ j → j ≤ 32768
       → (c : Configuration) (steps len : ℕ) → steps ≤ len → Moves (moves code) steps c (run_at i registers ram s.replies s.trace n)
-      → Branches (moves code) trace_of (At words slots j s) (At words slots (i + 1) s) len c v s.trace
+      → Tests (moves code) trace_of (At words slots j s) (At words slots (i + 1) s) len c v s.trace
   branched i over j n registers ram s zero m value none here far near c steps len within goes = record {
     steps = steps;
-    within = within;
+    few = within;
     ready = run_at i registers ram s.replies s.trace n;
     goes = goes;
     shows = refl;
-    next = run_at j registers ram s.replies s.trace (n + 1);
-    branches = moves-beq_taken code small i 5 0 (immediate (4 * over)) j registers ram s.replies s.trace n here (value ∙ sym none) (ahead i over j far near);
-    at_zero = λ z. at m;
+    at_zero = λ z. LeadsTo-within (omega arith) (record {
+      next = run_at j registers ram s.replies s.trace (n + 1);
+      moves = moves-beq_taken code small i 5 0 (immediate (4 * over)) j registers ram s.replies s.trace n here (value ∙ sym none) (ahead i over j far near);
+      stands = at m;
+    });
     at_other = λ other. absurd (other refl);
   }
   branched i over j n registers ram s (suc v) m value none here far near c steps len within goes = record {
     steps = steps;
-    within = within;
+    few = within;
     ready = run_at i registers ram s.replies s.trace n;
     goes = goes;
     shows = refl;
-    next = run_at (i + 1) registers ram s.replies s.trace (n + 1);
-    branches = moves-beq_passed code small i 5 0 (immediate (4 * over)) registers ram s.replies s.trace n here (λ same. absurd (omega (arith, value, none, same)));
     at_zero = λ z. absurd (omega (arith, z));
-    at_other = λ other. at m;
+    at_other = λ other. record {
+      next = run_at (i + 1) registers ram s.replies s.trace (n + 1);
+      moves = moves-beq_passed code small i 5 0 (immediate (4 * over)) registers ram s.replies s.trace n here (λ same. absurd (omega (arith, value, none, same)));
+      stands = at m;
+    };
   }
 
   -- with other fuel
@@ -232,7 +241,7 @@ module _ (code : List SmallInstr) (small : length code ≤ 32768) (words : ℕ) 
   test_branches : (i : ℕ) (c : Configuration) (over j : ℕ) (e : Term) (s : State) (v : ℕ) → HasTemporaries temporaries e → At words slots i s c
       → HasAt code i (term_code slots 0 e) → slice_get code (i + length (term_code slots 0 e)) ≡ Some (instr.Beq 5 0 (immediate (4 * over)))
       → i + length (term_code slots 0 e) + over ≡ j → j ≤ 32768 → value_in s e ≡ Ok v
-      → Branches (moves code) trace_of (At words slots j s) (At words slots (i + length (term_code slots 0 e) + 1) s) (length (term_code slots 0 e)) c v s.trace
+      → Tests (moves code) trace_of (At words slots j s) (At words slots (i + length (term_code slots 0 e) + 1) s) (length (term_code slots 0 e)) c v s.trace
   test_branches i c over j e s v h a here beq far near is =
       let t = term_evaluates code small words slots temporaries few room e 0 v i a.count a.registers a.ram s h.0 (omega (arith, h.1)) a.matches here is in
       let m1 = Matches-left (omega arith) t.leaves a.matches in
@@ -258,7 +267,7 @@ module _ (code : List SmallInstr) (small : length code ≤ 32768) (words : ℕ) 
       let front = command_code slots b in
       let behind = command_code slots c in
       let size = length-append front behind in
-      seq_comes {lb = length behind} (run_with call bound (drop (length (sites b)) offsets) c) (omega (arith, size))
+      seq_comes {lb = length behind} (run_with call bound offsets b s) (run_with call bound (drop (length (sites b)) offsets) c) (omega (arith, size))
       (command_comes call bound b offsets i s d h.0 (HasAt-front code i front behind here) (omega (arith, near, size)) low a)
       (λ u p there less. fits (omega arith) (λ w q z. at_same (i + length (front ++ behind)) (omega (arith, size)) z)
       (command_comes call bound c (drop (length (sites b)) offsets) (i + length front) u p h.1 (HasAt-back code i front behind here) (omega (arith, near, size)) (omega (arith, low, less)) there))
@@ -273,7 +282,7 @@ module _ (code : List SmallInstr) (small : length code ≤ 32768) (words : ℕ) 
       let there = HasAt-back code i test behind here in
       let last = HasAt-back code (p + 1) first (jump ∷ second) there.1 in
       let j = p + 1 + length first + 1 in
-      value_comes (value_in s e) s _ (λ v is. branch_comes {la = length first + 1 + length second} v _ _ (omega (arith, size))
+      value_comes (value_in s e) s _ (λ v is. branch_comes {la = length second} {lb = length first + 1} v _ _ (omega (arith, size)) (omega (arith, size))
       (test_branches i d (length first + 2) j e s v h.0 a (HasAt-front code i test behind here) there.0 (omega arith) (omega (arith, near, size, small)) is)
       (λ q z. fits (omega arith) (λ w y g. at_same (i + length (test ++ behind)) (omega (arith, size)) g)
       (command_comes call bound c (drop (length (sites b)) offsets) j s q h.2 last.1 (omega (arith, near, size)) low z))

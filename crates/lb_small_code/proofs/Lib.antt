@@ -1,4 +1,4 @@
-pub mod Simulation
+pub mod SourceOutcomes
 pub mod CodePlaces
 pub mod StateRelation
 pub mod NameLemmas

@@ -9,7 +9,10 @@ use Rattle.lb_syntax.specs.Needs.{greatest_depth}
 use Rattle.lb_small_code.specs.Small.{IsSmallProcedure}
 use Rattle.lb_syntax.specs.declared.layout.FrameLayout.{FrameLayout}
 use Rattle.lb_syntax.proofs.DistinctLemmas.{bytes_eq-refl}
-use Rattle.lb_source.specs.Run.{State, Outcome, Goes, then_do, Callable, callee, calls, enter, entered, returned, run}
+use Rattle.lb_steps.proofs.MoveLemmas.{Moves-one}
+use Rattle.lb_steps.proofs.Simulation.{arrived, fits, leading, spending}
+use Rattle.lb_source.specs.Correct.{AreWords}
+use Rattle.lb_source.specs.Run.{State, Outcome, Goes, then_do, spend, Callable, callee, calls, enter, entered, returned, run}
 use Rattle.lb_source.specs.Source.{callable, callables, start, to_end, for_ever, whole}
 use Rattle.lb_source.specs.declared.ends.SourceRun.{SourceRun}
 use Rattle.lb_small.specs.declared.instr.SmallInstr.{SmallInstr}
@@ -21,9 +24,8 @@ use Rattle.lb_small.specs.Runs as runs
 use Rattle.lb_small.proofs.StepLemmas.{run_at, plus_immediate-word, moves-lui, moves-addi, moves-jal}
 use Rattle.lb_small.proofs.RegisterLemmas.{length-with_register, with_register-same, with_register-other}
 use Rattle.lb_small_code.specs.Slots.{slot_names, frame_words}
-use Rattle.lb_small_code.specs.Correct.{AreWords}
 use Rattle.lb_small_code.specs.Code.{immediate, minus, command_code, frame_code, procedure_code, jump_back, pair_code}
-use Rattle.lb_small_code.proofs.Simulation.{Moves-one, Finishes, arrived, fits, leading, seq_comes, spending, end_comes, begin_comes, ever_comes}
+use Rattle.lb_small_code.proofs.SourceOutcomes.{SourceFinishes, seq_comes, spend_comes, end_comes, ever_comes}
 use Rattle.lb_small_code.proofs.CodePlaces.{HasAt, HasAt-front, HasAt-back, HasAt-whole}
 use Rattle.lb_small_code.proofs.StateRelation.{frame_base}
 use Rattle.lb_small_code.proofs.Placed.{IsPlaced}
@@ -208,7 +210,7 @@ module _ (code : List SmallInstr) (small : length code ≤ 32768) where
       → CodeComes code (Idle words (i + length (command_code slots f.body))) (length (command_code slots f.body)) c fuel (begun p depth (framed f frame) s t)
   body_comes p depth words slots temporaries f frame i fuel s t c few room h here near low is a =
       let len = length (command_code slots f.body) in
-      seq_comes {lb = 0} (λ u. Goes (returned [] [] s u)) (omega arith)
+      seq_comes {lb = 0} (run p depth frame.sites f.body (entered (framed f frame) [] t)) (λ u. Goes (returned [] [] s u)) (omega arith)
       (subst (λ n. CodeComes code (At words slots (i + len)) len c n (run p depth frame.sites f.body (entered (framed f frame) [] t))) (sym is)
       (command_comes code small words slots temporaries few room (calls p depth) depth f.body frame.sites i (entered (framed f frame) [] t) c h here near (omega (arith, low, is)) (At-idle slots t c f frame a)))
       (λ u d b less. arrived (returned [] [] s u) (Idle-returned s u d b))
@@ -249,7 +251,7 @@ module _ (code : List SmallInstr) (small : length code ≤ 32768) (f g : Procedu
 
   -- from the frame of `loop` on
   ever_turns : (p : List Callable) (n : ℕ) (s : State) (c : Configuration) → s.fuel ≤ n → Ready (2 + lf) s c
-      → Finishes (moves code) trace_of (IsWaiting code) (length code) 1 c s.fuel (for_ever n (called p n (framed g b)) s)
+      → SourceFinishes (moves code) trace_of (IsWaiting code) (length code) 1 c s.fuel (for_ever n (called p n (framed g b)) s)
   ever_turns p n s c low a =
       let words = frame_words g in
       let top = 2 + lf + 2 in
@@ -262,7 +264,7 @@ module _ (code : List SmallInstr) (small : length code ≤ 32768) (f g : Procedu
 
   -- from boot on
   code_finishes : (p : List Callable) (all : List ℕ) (n : ℕ) → AreWords all
-      → Finishes (moves code) trace_of (IsWaiting code) (length code) 0 (runs.start all) (suc n) (turns_of p n (framed f a) (framed g b) (start n all))
+      → SourceFinishes (moves code) trace_of (IsWaiting code) (length code) 0 (runs.start all) (suc n) (turns_of p n (framed f a) (framed g b) (start n all))
   code_finishes p all n words =
       let s = start n all in
       let wf = frame_words f in
@@ -270,18 +272,18 @@ module _ (code : List SmallInstr) (small : length code ≤ 32768) (f g : Procedu
       let boot : Ready 0 s (runs.start all) = record { registers = replicate 32 0; ram = zeros ram_size; count = 0; is = refl; long = refl; none = refl; sized = length-zeros ram_size; replies = words } in
       let begin = frame_begins code small wf 0 s (runs.start all) few_f frame_f boot in
       let first = begin.stands in
-      spending {la = 0} begin.moves (omega (arith, size))
-      (begin_comes {la = lf + 1} n s (begun p n (framed f a) s) (for_ever n (called p n (framed g b))) first.shows first.moves (omega (arith, size))
-      (λ k some. end_comes {la = lf} {lb = 1} (for_ever n (called p n (framed g b))) (omega arith)
-      (fits (omega (arith, size_f)) (λ u d end. end)
+      spending {la = 1} begin.moves (omega (arith, size))
+      (end_comes {la = 0} {lb = 1} (spend n s (begun p n (framed f a) s)) (for_ever n (called p n (framed g b))) (omega arith)
+      (spend_comes {la = lf} n s (begun p n (framed f a) s) first.shows first.moves (omega (arith, size))
+      (λ k some. fits (omega (arith, size_f)) (λ u d end. end)
       (body_comes code small p n wf (slot_names f) (greatest_depth f.body) f a 2 k s (record s { fuel = k }) first.next few_f (omega arith) hf body_f (omega (arith, size, size_f)) (omega (arith, some)) refl
-      (record { ready = record { registers = first.stands.ready.registers; ram = first.stands.ready.ram; count = first.stands.ready.count; is = first.stands.ready.is; long = first.stands.ready.long; none = first.stands.ready.none; sized = first.stands.ready.sized; replies = first.stands.ready.replies }; base = first.stands.base })))
-      (λ u d end less. ever_turns p n u d (omega (arith, some, less)) (subst (λ m. Ready (2 + m) u d) size_f end.ready))))
+      (record { ready = record { registers = first.stands.ready.registers; ram = first.stands.ready.ram; count = first.stands.ready.count; is = first.stands.ready.is; long = first.stands.ready.long; none = first.stands.ready.none; sized = first.stands.ready.sized; replies = first.stands.ready.replies }; base = first.stands.base }))))
+      (λ u d end less. ever_turns p n u d (omega (arith, less)) (subst (λ m. Ready (2 + m) u d) size_f end.ready)))
 
 module _ (f g : Procedure) (a b : FrameLayout) (few_f : frame_words f ≤ 474) (few_g : frame_words g ≤ 474)
     (hf : IsPlaced (slot_names f) (greatest_depth f.body) f.body) (hg : IsPlaced (slot_names g) (greatest_depth g.body) g.body) (small : length (pair_code f g) ≤ 32768) where
   pub pair_finishes : (p : List Callable) (all : List ℕ) (n : ℕ) → AreWords all
-      → Finishes (moves (pair_code f g)) trace_of (IsWaiting (pair_code f g)) (length (pair_code f g)) 0 (runs.start all) (suc n)
+      → SourceFinishes (moves (pair_code f g)) trace_of (IsWaiting (pair_code f g)) (length (pair_code f g)) 0 (runs.start all) (suc n)
       (turns_of p n (framed f a) (framed g b) (start n all))
   pair_finishes p all n words =
       let code = pair_code f g in

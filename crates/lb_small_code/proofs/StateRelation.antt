@@ -5,13 +5,13 @@ use Rattle.std.specs.Prelude.{slice_index}
 use Rattle.std.specs.Str.{bytes_eq}
 use Rattle.lb_syntax.specs.Names.{Text}
 use Rattle.lb_syntax.proofs.DistinctLemmas.{bytes_eq-same, bytes_eq-refl}
+use Rattle.lb_source.specs.Correct.{AreWords}
 use Rattle.lb_source.specs.Maps.{Variables, put}
 use Rattle.lb_source.specs.Run.{State, set}
 use Rattle.lb_small.specs.Memory.{with_register, load_word, store_word}
 use Rattle.lb_small.proofs.RamLemmas.{length-store_word, load_word-store_word_same, load_word-store_word_apart}
 use Rattle.lb_small.proofs.RegisterLemmas.{length-with_register, with_register-other}
 use Rattle.lb_small_code.specs.Slots.{slot}
-use Rattle.lb_small_code.specs.Correct.{AreWords}
 
 -- ---- what stays
 

@@ -26,7 +26,7 @@ use Rattle.lb_small.proofs.RegisterLemmas.{length-with_register, with_register-s
 use Rattle.lb_small.proofs.RamLemmas.{load_word-store_word_same}
 use Rattle.lb_small_code.specs.Slots.{slot}
 use Rattle.lb_small_code.specs.Code.{immediate, upper_part, lower_part, word_code, operation_code, term_code, slot_offset, temporary_offset}
-use Rattle.lb_small_code.proofs.Simulation.{Moves, Moves-one, Moves-then}
+use Rattle.lb_steps.proofs.MoveLemmas.{Moves, Moves-one, Moves-then}
 use Rattle.lb_small_code.proofs.CodePlaces.{HasAt, HasAt-front, HasAt-back}
 use Rattle.lb_small_code.proofs.StateRelation.{frame_base, slot_address, temporary_address, Leaves, Leaves-then, Leaves-lower, Leaves-register, Leaves-store, Holds, Matches, Matches-left}
 

@@ -1,5 +1,5 @@
 -- The laws of the code of a program.
-use Rattle.std.proofs.Common.{◌≡◌, ℕ, zero, suc, ◌+◌, ◌*◌, ◌%◌, ◌≤◌, inl, inr, if◌then◌else◌, List, [], ◌∷◌, ◌++◌, length, codes, refl, sym, ap, subst, arith}
+use Rattle.std.proofs.Common.{◌≡◌, ℕ, suc, ◌%◌, ◌≤◌, inl, inr, if◌then◌else◌, List, [], ◌∷◌, ◌++◌, length, codes, refl, sym, ap, subst, arith}
 use Rattle.std.specs.Prelude.{All}
 use Rattle.std.specs.Str.{bytes_eq}
 use Rattle.std.proofs.lemmas.List.Elements.{All-nil, All-cons, All-head, All-tail}
@@ -12,9 +12,11 @@ use Rattle.lb_syntax.specs.Layouts.{IsFrameOf, AreFramesOf}
 use Rattle.lb_small_code.specs.Small.{IsSmallCommand, IsSmallBlock, IsSmallProcedure, HasNearFrame}
 use Rattle.lb_syntax.specs.declared.layout.FrameLayout.{FrameLayout}
 use Rattle.lb_syntax.specs.declared.layout.Layout.{Layout}
+use Rattle.lb_source.specs.Correct.{AreWords, Implements}
 use Rattle.lb_source.specs.Run.{Callable}
-use Rattle.lb_source.specs.Source.{callables, start, whole}
+use Rattle.lb_source.specs.Source.{callables, start, whole, src}
 use Rattle.lb_source.specs.declared.ends.SourceRun.{SourceRun}
+use Rattle.lb_source.proofs.ImplementLemmas.{implements}
 use Rattle.lb_small.specs.declared.instr.SmallInstr.{SmallInstr}
 use Rattle.lb_small.specs.Ranges.{AreInRange}
 use Rattle.lb_small.specs.Runs.{Configuration, moves, isa, IsHalted}
@@ -23,9 +25,9 @@ use Rattle.lb_small.proofs.MoveLemmas.{moves-extends, moves-halted, moves-waits,
 use Rattle.lb_small_code.specs.Slots.{slot_names, frame_words, frame_of}
 use Rattle.lb_small_code.specs.Part.{IsSmallPair}
 use Rattle.lb_small_code.specs.Code.{pair_code, program_code}
-use Rattle.lb_small_code.specs.Correct.{AreWords, Follows, Reaches}
+use Rattle.lb_small_code.specs.Correct.{Follows, Reaches}
 use Rattle.lb_small_code.specs.Laws.{CodeFollows, CodeReaches, CodeIsWithinNeed, CodeIsInRange, LayoutIsValid}
-use Rattle.lb_small_code.proofs.Simulation.{Finishes, suc_times, agrees, stands_to_wait, reaches}
+use Rattle.lb_small_code.proofs.SourceOutcomes.{SourceFinishes, fuel_of}
 use Rattle.lb_small_code.proofs.NameLemmas.{length-with_names}
 use Rattle.lb_small_code.proofs.Placed.{IsPlaced, procedure_placed}
 use Rattle.lb_small_code.proofs.CommandRuns.{trace_of, IsWaiting}
@@ -34,14 +36,6 @@ use Rattle.lb_small_code.proofs.RangeLemmas.{pair_in_range}
 use Rattle.lb_small_code.proofs.ProgramRuns.{Finds, init_first, loop_first, whole-small, pair_finishes}
 
 -- ---- needs
-
-times_more : (k a b : ℕ) → a ≤ b → k * a ≤ k * b
-times_more zero a b h = omega arith
-times_more (suc k) a b h = omega (arith, h, suc_times k a, suc_times k b, times_more k a b h)
-
-more_times : (n a b : ℕ) → a ≤ b → 0 + suc n * a ≤ (n + 1) * b
-more_times n a b h = let one : n + 1 ≡ suc n = omega arith in
-    subst (λ k. 0 + suc n * a ≤ k * b) (sym one) (omega (arith, times_more (suc n) a b h))
 
 -- as many slots as variables
 pub slots_each : (f : Procedure) → length (slot_names f) ≡ variables f
@@ -77,29 +71,20 @@ module _ (f g : Procedure) (is_init : IsSmallProcedure (codes "init") f) (is_loo
 
     -- the whole run of a program that has both, in any frames
     finishes : (p : List Callable) → Finds p f g → (all : List ℕ) (n : ℕ) → AreWords all
-        → Finishes (moves (pair_code f g)) trace_of (IsWaiting (pair_code f g)) (length (pair_code f g)) 0 (runs.start all) (suc n) (whole p n (start n all))
+        → SourceFinishes (moves (pair_code f g)) trace_of (IsWaiting (pair_code f g)) (length (pair_code f g)) 0 (runs.start all) (suc n) (whole p n (start n all))
     finishes p found all n are_words =
         let code = pair_code f g in
-        subst (λ (r : SourceRun). Finishes (moves code) trace_of (IsWaiting code) (length code) 0 (runs.start all) (suc n) r)
+        subst (λ (r : SourceRun). SourceFinishes (moves code) trace_of (IsWaiting code) (length code) 0 (runs.start all) (suc n) r)
         (sym (whole-small p f g n (start n all) found))
         (pair_finishes f g found.init_frame found.again_frame few_f few_g placed_f placed_g small p all n are_words)
 
-    follows : (p : List Procedure) (layout : Layout) → Finds (callables p layout.frames) f g → Follows p layout (pair_code f g)
-    follows p layout found =
-        let code = pair_code f g in record {
-          agrees = λ replies n are_words ok.
-              agrees (moves-extends code) (moves-waits code) {n = n} _ _ (omega arith) ok (finishes (callables p layout.frames) found replies n are_words);
-          runs = λ replies n are_words ok halted.
-              IsHalted-waits code (isa code replies n)
-              (stands_to_wait (moves-extends code) (moves-waits code) {n = n} _ _ (omega arith) ok (finishes (callables p layout.frames) found replies n are_words) (moves-halted code (isa code replies n) halted)) halted;
-        }
-
-    reaches_all : (p : List Procedure) (layout : Layout) → code_need (f ∷ g ∷ []) ≡ code_need p → Finds (callables p layout.frames) f g → Reaches p layout (pair_code f g)
-    reaches_all p layout same found =
-        let code = pair_code f g in record {
-          comes = λ replies n are_words ok.
-              reaches (moves-extends code) (moves-waits code) _ _ (more_times n (length code) (code_need p) (omega (arith, within_need.1, same))) ok (finishes (callables p layout.frames) found replies n are_words);
-        }
+    -- the code does what the program does, and nothing else
+    keeps : (p : List Procedure) (layout : Layout) → code_need (f ∷ g ∷ []) ≡ code_need p → Finds (callables p layout.frames) f g
+        → Implements (src p layout) (code_need p) (λ replies n. (isa (pair_code f g) replies n).trace) (λ replies n. IsHalted (pair_code f g) (isa (pair_code f g) replies n))
+    keeps p layout same found =
+        let code = pair_code f g in
+        implements (moves code) trace_of (IsWaiting code) (IsHalted code) (length code) fuel_of (moves-extends code) (moves-waits code) (moves-halted code) (IsHalted-waits code) runs.start (src p layout)
+        (λ replies n are_words. finishes (callables p layout.frames) found replies n are_words) (code_need p) (omega (arith, within_need.1, same))
 
 -- ---- both orders
 
@@ -181,19 +166,19 @@ pub code_follows : CodeFollows
 code_follows [] layout h limits valid = absurd h
 code_follows (f ∷ []) layout h limits valid = absurd h
 code_follows (f ∷ g ∷ []) layout (inl h, near_f, near_g) limits valid =
-    subst (Follows (f ∷ g ∷ []) layout) (sym (program_code-init_first f g h)) (follows f g h.0 h.1 near_f near_g limits (f ∷ g ∷ []) layout (finds-init_first f g layout.frames h valid))
+    subst (Follows (f ∷ g ∷ []) layout) (sym (program_code-init_first f g h)) (keeps f g h.0 h.1 near_f near_g limits (f ∷ g ∷ []) layout refl (finds-init_first f g layout.frames h valid)).refines
 code_follows (f ∷ g ∷ []) layout (inr h, near_f, near_g) limits valid =
-    subst (Follows (f ∷ g ∷ []) layout) (sym (program_code-loop_first f g h)) (follows g f h.0 h.1 near_g near_f (within-swap f g near_f near_g limits) (f ∷ g ∷ []) layout (finds-loop_first f g layout.frames h valid))
+    subst (Follows (f ∷ g ∷ []) layout) (sym (program_code-loop_first f g h)) (keeps g f h.0 h.1 near_g near_f (within-swap f g near_f near_g limits) (f ∷ g ∷ []) layout (code_need-swap g f near_g near_f) (finds-loop_first f g layout.frames h valid)).refines
 code_follows (f ∷ g ∷ k ∷ p) layout h limits valid = absurd h
 
 pub code_reaches : CodeReaches
 code_reaches [] layout h limits valid = absurd h
 code_reaches (f ∷ []) layout h limits valid = absurd h
 code_reaches (f ∷ g ∷ []) layout (inl h, near_f, near_g) limits valid =
-    subst (Reaches (f ∷ g ∷ []) layout) (sym (program_code-init_first f g h)) (reaches_all f g h.0 h.1 near_f near_g limits (f ∷ g ∷ []) layout refl (finds-init_first f g layout.frames h valid))
+    subst (Reaches (f ∷ g ∷ []) layout) (sym (program_code-init_first f g h)) (keeps f g h.0 h.1 near_f near_g limits (f ∷ g ∷ []) layout refl (finds-init_first f g layout.frames h valid)).progresses
 code_reaches (f ∷ g ∷ []) layout (inr h, near_f, near_g) limits valid =
     subst (Reaches (f ∷ g ∷ []) layout) (sym (program_code-loop_first f g h))
-    (reaches_all g f h.0 h.1 near_g near_f (within-swap f g near_f near_g limits) (f ∷ g ∷ []) layout (code_need-swap g f near_g near_f) (finds-loop_first f g layout.frames h valid))
+    (keeps g f h.0 h.1 near_g near_f (within-swap f g near_f near_g limits) (f ∷ g ∷ []) layout (code_need-swap g f near_g near_f) (finds-loop_first f g layout.frames h valid)).progresses
 code_reaches (f ∷ g ∷ k ∷ p) layout h limits valid = absurd h
 
 pub code_is_within_need : CodeIsWithinNeed

@@ -12,3 +12,4 @@ pub mod ArmFacts
 pub mod EverFacts
 pub mod FrameFacts
 mod StackLemmas
+pub mod ImplementLemmas

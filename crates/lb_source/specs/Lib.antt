@@ -4,5 +4,6 @@ pub mod Run
 pub mod Source
 pub mod Defined
 pub mod Stack
+pub mod Correct
 pub mod Laws
 pub mod InternalMachine

@@ -1,3 +1,6 @@
 pub mod RunLemmas
 pub mod GrowthLemmas
 pub mod LeadLemmas
+pub mod MoveLemmas
+pub mod Behavior
+pub mod Simulation
