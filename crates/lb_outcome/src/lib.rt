@@ -7,7 +7,6 @@ mod ram;
 mod registers;
 mod types;
 
-pub use memory_map::RAM_SIZE;
 pub use outcomes::{halt, outcome};
 pub use ram::Ram;
 pub use registers::Registers;

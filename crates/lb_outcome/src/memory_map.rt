@@ -2,10 +2,7 @@
 ghost use Rattle.std.specs.Prelude.{◌≡◌, ◌≤◌};
 ghost use Rattle.lb_outcome.specs.MemoryMap.{is_device_word, is_in_ram};
 
-use lb_trace::is_device_address;
-
-/// The number of bytes of RAM, which stands from address 0 on.
-pub const RAM_SIZE: u32 = 0x40000;
+use lb_memory::{RAM_SIZE, is_device_address};
 
 // Whether an access of this many bytes lies wholly in RAM.
 pub(crate) fn in_ram(bytes: u32, address: u32) -> bool

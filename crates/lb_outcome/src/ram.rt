@@ -4,10 +4,11 @@ ghost use Rattle.lb_rv.specs.Decoding.{signed_by};
 ghost use Rattle.lb_rv.specs.Effects.{access};
 ghost use Rattle.lb_rv.specs.Formats.{immediate_word};
 ghost use Rattle.lb_outcome.specs.Cells.{cells};
-ghost use Rattle.lb_outcome.specs.MemoryMap.{ram_size};
+ghost use Rattle.lb_memory.specs.declared.TheConstants.{RAM_SIZE};
 ghost use Rattle.lb_outcome.specs.Ram.{boot_ram, loaded, number_at, stored, with_bytes};
 
-use crate::memory_map::{RAM_SIZE, in_ram};
+use crate::memory_map::in_ram;
+use lb_memory::RAM_SIZE;
 use crate::outcomes::access_bytes;
 use byteorder::{ByteOrder, LittleEndian};
 use lb_rv::Instr;
@@ -22,13 +23,13 @@ pub struct Ram {
 
 impl Model for Ram {
     ghost use Rattle.std.specs.Prelude.{List, ℕ, ◌≡◌, length};
-    ghost use Rattle.lb_outcome.specs.MemoryMap.{ram_size};
+    ghost use Rattle.lb_memory.specs.declared.TheConstants.{RAM_SIZE};
 
     ghost Value = { List ℕ };
 
     ghost view = { λ r. r.bytes.items };
 
-    ghost invariant = { λ r. length r.bytes.items ≡ ram_size };
+    ghost invariant = { λ r. length r.bytes.items ≡ RAM_SIZE };
 }
 
 impl Ram {
@@ -85,7 +86,7 @@ impl Ram {
     // The number that the bytes of the access make.
     #[tactic(auto, using(crate::proofs::RamLemmas::number_drop))]
     fn number(&self, instruction: Instr, at: usize) -> u32
-        requires { at + (access instruction).bytes ≤ ram_size }
+        requires { at + (access instruction).bytes ≤ RAM_SIZE }
         ensures value { result ≡ number_at (access instruction).bytes at (cells self.now) }
         ensures bound { result < 256 ^ (access instruction).bytes }
     {
@@ -101,21 +102,21 @@ impl Ram {
 
     #[tactic(auto, using(crate::proofs::RamLemmas::cells_set))]
     fn set_byte(&mut self, at: usize, value: u32)
-        requires { at + 1 ≤ ram_size }
+        requires { at + 1 ≤ RAM_SIZE }
         ensures { cells self.new ≡ with_bytes 1 at value (cells self.old) }
     {
         self.bytes[at] = (value % 256) as u8;
     }
 
     fn set_half(&mut self, at: usize, value: u32)
-        requires { at + 2 ≤ ram_size }
+        requires { at + 2 ≤ RAM_SIZE }
         ensures { cells self.new ≡ with_bytes 2 at value (cells self.old) }
     {
         write_half(&mut self.bytes, at, value);
     }
 
     fn set_word(&mut self, at: usize, value: u32)
-        requires { at + 4 ≤ ram_size }
+        requires { at + 4 ≤ RAM_SIZE }
         ensures { cells self.new ≡ with_bytes 4 at value (cells self.old) }
     {
         write_word(&mut self.bytes, at, value);
