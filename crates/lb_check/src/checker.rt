@@ -6,11 +6,11 @@ ghost use Rattle.lb_check.specs.Needed.{AreNeedsOf};
 ghost use Rattle.lb_check.specs.Parts.{parts};
 ghost use Rattle.lb_check.specs.Verdict.{IsRefusal};
 
+use crate::call_graph::{check_cycles, check_stack, graph_of};
 use crate::checked::{Checked, Needs};
 use crate::fault::CheckError;
 use crate::needs::code_need;
 use crate::rules::{FORM_RULES, NEED_RULES, check_rules};
-use crate::call_graph::{check_cycles, check_stack, graph_of};
 use lb_syntax::{Function, Program};
 use std::alloc::Global;
 

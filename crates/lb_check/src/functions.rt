@@ -36,7 +36,14 @@ fn check_function(alloc: Global, rule: FunctionRule, f: &Function) -> Result<(),
     match rule {
         FunctionRule::Names => check_names(alloc, f),
         FunctionRule::Entry => check_entry(alloc, f),
-        FunctionRule::Counts => { check_counts(alloc, &f.name, f.params.len() as u64, f.results.len() as u64) }
+        FunctionRule::Counts => {
+            check_counts(
+                alloc,
+                &f.name,
+                f.params.len() as u64,
+                f.results.len() as u64,
+            )
+        }
         FunctionRule::FrameNeed => check_frame(alloc, f),
     }
 }
@@ -83,12 +90,7 @@ fn is_entry(name: &Name) -> bool
 }
 
 // Whether there are at most 8 parameters and at most 8 results.
-fn check_counts(
-    alloc: Global,
-    function: &Name,
-    params: u64,
-    results: u64,
-) -> Result<(), CheckError>
+fn check_counts(alloc: Global, function: &Name, params: u64, results: u64) -> Result<(), CheckError>
     ensures { Tells (count_faults function.now params results) result }
 {
     let count = if params > MOST_PARAMS {

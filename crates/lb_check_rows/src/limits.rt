@@ -67,6 +67,10 @@ fn frames_have_32768_bytes(rt: HostRuntime) -> Result<(), Fail> {
             "fn init() { stackalloc 32628 as p { store4((p + 32624), 7); x = load4((p + 32624)); MMIOWRITE(0x1001200C, x); } } fn loop() { }",
             "frame-need init 32784",
         ),
+        (
+            "fn init() { stackalloc 32608 as p { store4((p + 32604), 7); x = load4((p + 32604)); MMIOWRITE(0x1001200C, x); } } fn loop() { }",
+            "ok words 456 stack 32764",
+        ),
     ] {
         expect(&rt, rt.alloc(), text, want)?;
     }

@@ -14,7 +14,7 @@ const RULES: [(&str, u8, &str); 25] = [
         0,
         "ok functions 2 words 176 stack 136\n",
     ),
-    (LAMP, 0, "ok functions 5 words 2382 stack 2020\n"),
+    (LAMP, 0, "ok functions 5 words 3066 stack 2036\n"),
     (
         "fn init() { } fn loop() { } fn init() { }",
         3,

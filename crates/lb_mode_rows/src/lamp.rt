@@ -1,49 +1,72 @@
 // A larger program: the driver of a chip that receives frames, and a lamp that they switch.
 
-pub const LAMP: &str = "fn spi_xchg(b) -> (r) {
-  r = MMIOREAD(0x10024048);
-  while (r >> 31) { r = MMIOREAD(0x10024048); }
-  MMIOWRITE(0x10024048, b);
-  r = MMIOREAD(0x1002404C);
-  while (r >> 31) { r = MMIOREAD(0x1002404C); }
-  r = (r & 255);
+pub const LAMP: &str = "fn spi_xchg(b, e) -> (r, e) {
+  r = 0;
+  if (e == 0) {
+    n = 1000;
+    r = 0x80000000;
+    while ((r >> 31) & (0 < n)) { r = MMIOREAD(0x10024048); n = (n - 1); }
+    e = (r >> 31);
+    if (e == 0) {
+      MMIOWRITE(0x10024048, b);
+      n = 1000;
+      r = 0x80000000;
+      while ((r >> 31) & (0 < n)) { r = MMIOREAD(0x1002404C); n = (n - 1); }
+      e = (r >> 31);
+      r = (r & 255);
+    }
+  }
 }
 fn lan_read(a) -> (v) {
   MMIOWRITE(0x10024018, 2);
-  x = spi_xchg(11);
-  x = spi_xchg((a >> 8));
-  x = spi_xchg((a & 255));
-  x = spi_xchg(0);
-  v = spi_xchg(0);
-  x = spi_xchg(0);
+  x, e = spi_xchg(11, 0);
+  x, e = spi_xchg((a >> 8), e);
+  x, e = spi_xchg((a & 255), e);
+  x, e = spi_xchg(0, e);
+  v, e = spi_xchg(0, e);
+  x, e = spi_xchg(0, e);
   v = (v | (x << 8));
-  x = spi_xchg(0);
+  x, e = spi_xchg(0, e);
   v = (v | (x << 16));
-  x = spi_xchg(0);
+  x, e = spi_xchg(0, e);
   v = (v | (x << 24));
   MMIOWRITE(0x10024018, 0);
+  while e { skip; }
 }
 fn lan_write(a, v) {
   MMIOWRITE(0x10024018, 2);
-  x = spi_xchg(2);
-  x = spi_xchg((a >> 8));
-  x = spi_xchg((a & 255));
-  x = spi_xchg((v & 255));
-  x = spi_xchg(((v >> 8) & 255));
-  x = spi_xchg(((v >> 16) & 255));
-  x = spi_xchg((v >> 24));
+  x, e = spi_xchg(2, 0);
+  x, e = spi_xchg((a >> 8), e);
+  x, e = spi_xchg((a & 255), e);
+  x, e = spi_xchg((v & 255), e);
+  x, e = spi_xchg(((v >> 8) & 255), e);
+  x, e = spi_xchg(((v >> 16) & 255), e);
+  x, e = spi_xchg((v >> 24), e);
   MMIOWRITE(0x10024018, 0);
+  while e { skip; }
 }
 fn init() {
   MMIOWRITE(0x10012038, 0x3C);
   MMIOWRITE(0x10012008, 0x800000);
-  v = 0;
-  while ((v == 0x87654321) == 0) { v = lan_read(0x64); }
+  n = 1000;
+  bad = 1;
+  while (bad & (0 < n)) {
+    v = lan_read(0x64);
+    bad = ((v == 0x87654321) == 0);
+    n = (n - 1);
+  }
+  while bad { skip; }
   lan_write(0x74, 0x100000);
   lan_write(0xA8, 12);
   lan_write(0xA4, 0x80000001);
-  v = lan_read(0xA4);
-  while (v >> 31) { v = lan_read(0xA4); }
+  n = 1000;
+  bad = 1;
+  while (bad & (0 < n)) {
+    v = lan_read(0xA4);
+    bad = (v >> 31);
+    n = (n - 1);
+  }
+  while bad { skip; }
 }
 fn loop() {
   stackalloc 1520 as buf {

@@ -8,9 +8,9 @@ ghost use Rattle.lb_memory.specs.declared.TheConstants.{RAM_SIZE};
 ghost use Rattle.lb_outcome.specs.Ram.{boot_ram, loaded, number_at, stored, with_bytes};
 
 use crate::memory_map::in_ram;
-use lb_memory::RAM_SIZE;
 use crate::outcomes::access_bytes;
 use byteorder::{ByteOrder, LittleEndian};
+use lb_memory::RAM_SIZE;
 use lb_rv::Instr;
 use std::alloc::{AllocError, Global};
 use std::marker::Model;

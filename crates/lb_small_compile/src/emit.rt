@@ -9,14 +9,13 @@ ghost use Rattle.lb_small_code.specs.Code.{immediate, minus, slot_offset, term_c
 
 use crate::frame::Frame;
 use crate::slots::Slots;
-use crate::terms::{EARLIER, STACK, VALUE, ZERO, emit_term, negated, put, spill, reload};
+use crate::terms::{EARLIER, STACK, VALUE, ZERO, emit_term, negated, put, reload, spill};
 use lb_memory::STACK_TOP;
 use lb_small::SmallInstr;
 use lb_syntax::{Action, Block, Cmd, Expr, Function, Name};
 use std::alloc::AllocError;
 
 // The address behind the stack.
-
 
 /// `init` and `loop`, each in its frame, and a jump back to the first command of `loop`.
 pub fn emit_program(

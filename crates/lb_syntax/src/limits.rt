@@ -15,5 +15,5 @@ pub const MOST_WORDS: u64 = 32_768;
 /// The most bytes of a frame.
 pub const MOST_FRAME: u64 = 32_768;
 
-/// The most bytes of a frame whose slots are all reached by an instruction's own immediate.
+/// The most bytes of a near frame. The slots of one lie within the reach of an instruction's own immediate.
 pub const NEAR_FRAME: u64 = 2_032;

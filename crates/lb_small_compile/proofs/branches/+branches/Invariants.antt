@@ -1,6 +1,5 @@
 use Rattle.std.proofs.Common.{◌≡◌, max}
 use Rattle.lb_syntax.specs.Tree.{block_of}
-
 use Rattle.lb_small_code.specs.Small.{IsSmallBlock, longest_branch, most_branch}
 use Rattle.lb_syntax.proofs.BlockLemmas.{rest}
 use Rattle.lb_small_compile.proofs.branches.+branches.Given as goal
