@@ -1,0 +1,4 @@
+pub mod RowLemmas
+pub mod PinLemmas
+pub mod ScriptLemmas
+pub mod WorkedRows
