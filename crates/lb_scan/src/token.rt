@@ -170,7 +170,9 @@ pub fn begins_fixed(bytes: &[u8]) -> bool
 fn begins_some(table: &[Token], bytes: &[u8]) -> bool
     ensures { result ≡ list_any (λ token. tokens.begins_with bytes.now (tokens.spelling (token_of token))) table.now }
 {
-    table.iter().any(|token| begins_with(bytes, spelling(token)))
+    table
+        .iter()
+        .any(|token| begins_with(bytes, spelling(token)))
 }
 
 /// Whether these bytes begin one of the fixed spellings that `expected` takes.
@@ -194,7 +196,10 @@ pub fn takes(expected: Symbol, token: &Token) -> bool
     match expected {
         Symbol::Functions => matches!(token, Token::Fn),
         Symbol::Names => matches!(token, Token::Name(_) | Token::CloseParen),
-        Symbol::MoreNames | Symbol::MoreArguments => matches!(token, Token::Comma | Token::CloseParen),
+        Symbol::MoreNames | Symbol::MoreArguments => matches!(
+            token,
+            Token::Comma | Token::CloseParen
+        ),
         Symbol::Results => matches!(token, Token::Arrow | Token::OpenBrace),
         Symbol::Block => matches!(token, Token::OpenBrace),
         Symbol::Commands => starts_command(token),

@@ -32,7 +32,12 @@ pub fn unset(alloc: Global, depth: u32, bytes: &[u8]) -> Result<(Cmd, &[u8]), Pa
 }
 
 /// The store whose keyword was read, and what follows it.
-pub fn store(alloc: Global, depth: u32, width: Width, bytes: &[u8]) -> Result<(Cmd, &[u8]), ParseError>
+pub fn store(
+    alloc: Global,
+    depth: u32,
+    width: Width,
+    bytes: &[u8],
+) -> Result<(Cmd, &[u8]), ParseError>
     requires { depth ≤ most_brackets }
     ensures found { IfOk result (λ r. Reads depth (symbols.OpenParen ∷ symbols.Expr ∷ symbols.Comma ∷ symbols.Expr ∷ symbols.CloseParen ∷ symbols.Semicolon ∷ []) (After (Stands (Store width)) (CommandAt (command_of r.0))) depth [] bytes.now r.1.now) }
     ensures fault { IfErr result (λ e. Fails depth (symbols.OpenParen ∷ symbols.Expr ∷ symbols.Comma ∷ symbols.Expr ∷ symbols.CloseParen ∷ symbols.Semicolon ∷ []) bytes.now e) }
@@ -70,7 +75,12 @@ pub fn call_of(
 }
 
 /// The command whose first name was read, and what follows it.
-pub fn named(alloc: Global, depth: u32, first: Name, bytes: &[u8]) -> Result<(Cmd, &[u8]), ParseError>
+pub fn named(
+    alloc: Global,
+    depth: u32,
+    first: Name,
+    bytes: &[u8],
+) -> Result<(Cmd, &[u8]), ParseError>
     requires { depth ≤ most_brackets }
     ensures found { IfOk result (λ r. Reads depth (symbols.AfterName ∷ []) (After (Stands (Named first)) (CommandAt (command_of r.0))) depth [] bytes.now r.1.now) }
     ensures fault { IfErr result (λ e. Fails depth (symbols.AfterName ∷ []) bytes.now e) }
@@ -91,7 +101,12 @@ pub fn named(alloc: Global, depth: u32, first: Name, bytes: &[u8]) -> Result<(Cm
 }
 
 // The call of several targets, of which the first was read, and the comma behind it.
-fn call_of_targets(alloc: Global, depth: u32, first: Name, bytes: &[u8]) -> Result<(Cmd, &[u8]), ParseError>
+fn call_of_targets(
+    alloc: Global,
+    depth: u32,
+    first: Name,
+    bytes: &[u8],
+) -> Result<(Cmd, &[u8]), ParseError>
     requires { depth ≤ most_brackets }
     ensures found { IfOk result (λ r. Reads depth (symbols.Name ∷ symbols.MoreTargets ∷ []) (After (Stands (Named first) then Stands Comma) (CommandAt (command_of r.0))) depth [] bytes.now r.1.now) }
     ensures fault { IfErr result (λ e. Fails depth (symbols.Name ∷ symbols.MoreTargets ∷ []) bytes.now e) }
@@ -119,7 +134,12 @@ fn callee(alloc: Global, depth: u32, bytes: &[u8]) -> Result<(Callee, &[u8]), Pa
 }
 
 // The command that sets one variable, from behind its `=` on.
-fn assignment(alloc: Global, depth: u32, target: Name, bytes: &[u8]) -> Result<(Cmd, &[u8]), ParseError>
+fn assignment(
+    alloc: Global,
+    depth: u32,
+    target: Name,
+    bytes: &[u8],
+) -> Result<(Cmd, &[u8]), ParseError>
     requires { depth ≤ most_brackets }
     ensures found { IfOk result (λ r. Reads depth (symbols.Source ∷ []) (After (Stands (Named target) then Stands Becomes) (CommandAt (command_of r.0))) depth [] bytes.now r.1.now) }
     ensures fault { IfErr result (λ e. Fails depth (symbols.Source ∷ []) bytes.now e) }

@@ -89,6 +89,8 @@ fn operator(depth: u32, bytes: &[u8]) -> Result<(Op, &[u8]), ParseError>
     ensures fault { IfErr result (λ e. Fails depth (symbols.Sign ∷ []) bytes.now e) }
 {
     let (token, rest) = expect_token(Symbol::Sign, depth, bytes)?;
-    let Token::Sign(op) = token else { unreachable!() };
+    let Token::Sign(op) = token else {
+        unreachable!()
+    };
     Ok((op, rest))
 }

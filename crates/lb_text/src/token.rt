@@ -13,7 +13,11 @@ use lb_scan::{Token, scan};
 use lb_spelling::Symbol;
 
 /// The next token, which has to be one that `expected` takes, and what follows it.
-pub fn expect_token(expected: Symbol, depth: u32, bytes: &[u8]) -> Result<(Token, &[u8]), ParseError>
+pub fn expect_token(
+    expected: Symbol,
+    depth: u32,
+    bytes: &[u8],
+) -> Result<(Token, &[u8]), ParseError>
     requires depth { depth ≤ most_brackets }
     requires more { (k : Stack) → ends (expected ∷ k) ≡ false }
     ensures found { IfOk result (λ r. Takes depth expected (token_of r.0) bytes.now r.1.now) }
