@@ -1,5 +1,5 @@
 // Each operation on pairs of words, in code that was compiled and run.
-use lb_rows::call::{call_plain, whole};
+use lb_testkit::call::{call_plain, whole};
 use lb_trace::{Event, print_trace};
 use std::alloc::{AllocError, Global};
 use std::test::Fail;

@@ -1,5 +1,5 @@
 // The first rows: a program, its replies and its report; and each status with its line.
-use crate::call::{call_plain, whole};
+use lb_testkit::call::{call_plain, whole};
 use std::alloc::{AllocError, Global};
 use std::test::Fail;
 

@@ -1,6 +1,6 @@
 // Programs with nested conditions and loops beside the source's interpreter: the same events, one by one.
-use lb_rows::beside::{Row, agrees};
 use lb_source::{Reason, SourceEnd};
+use lb_testkit::beside::{Row, agrees};
 use std::test::Fail;
 
 const NONE: [u32; 0] = [];

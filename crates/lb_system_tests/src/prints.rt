@@ -1,5 +1,5 @@
 // What `print` writes.
-use lb_rows::call::{call_plain, whole};
+use lb_testkit::call::{call_plain, whole};
 use std::test::Fail;
 
 const PRINT: [&str; 2] = ["bulb", "print"];

@@ -1,6 +1,6 @@
 // What `check` tells: what a program asks for, the first rule that it breaks, or the place where its text fails.
 use crate::lamp::LAMP;
-use lb_rows::call::{Call, call_plain, whole};
+use lb_testkit::call::{Call, call_plain, whole};
 use std::test::Fail;
 
 const CHECK: [&str; 2] = ["bulb", "check"];

@@ -1,5 +1,5 @@
 // Programs at the limits, and one past each.
-use lb_rows::call::{Call, call_plain, whole};
+use lb_testkit::call::{Call, call_plain, whole};
 use std::alloc::{AllocError, Global};
 use std::test::Fail;
 

@@ -1,5 +1,5 @@
 // Reports of programs with operations and loops.
-use lb_rows::call::{call_plain, whole};
+use lb_testkit::call::{call_plain, whole};
 use std::test::Fail;
 
 // Words, an input and the report.

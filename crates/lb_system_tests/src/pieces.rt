@@ -1,5 +1,5 @@
 // Reading and writing in pieces, and failing in the middle.
-use crate::call::{Call, call_plain, whole};
+use lb_testkit::call::{Call, call_plain, whole};
 use std::test::Fail;
 
 const READS: &[u8] =

@@ -1,5 +1,5 @@
 // `run` on texts of any spelling, and words that are no request.
-use lb_rows::call::{call_plain, whole};
+use lb_testkit::call::{call_plain, whole};
 use std::test::Fail;
 
 const RUN: [&str; 4] = ["bulb", "run", "1000", "00000005"];

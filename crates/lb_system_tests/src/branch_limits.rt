@@ -1,5 +1,5 @@
 // The longest branch and the most brackets that are built so far, and one past each.
-use lb_rows::call::{call_plain, whole};
+use lb_testkit::call::{call_plain, whole};
 use std::alloc::{AllocError, Global};
 use std::test::Fail;
 

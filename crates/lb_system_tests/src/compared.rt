@@ -1,8 +1,8 @@
 // The top call beside the source's interpreter: the same events, one by one.
-use crate::beside::{Row, agrees};
-use crate::call::{call_plain, whole};
-use crate::source::{event_lines, source_run};
 use lb_source::{Reason, SourceEnd};
+use lb_testkit::beside::{Row, agrees};
+use lb_testkit::call::{call_plain, whole};
+use lb_testkit::source::{event_lines, source_run};
 use lb_trace::print_trace;
 use std::test::Fail;
 
