@@ -78,6 +78,7 @@ fn call(alloc: Global, name: &Name) -> Result<Block, NotChecked> {
 }
 
 /// Functions of which each calls the next, in its innermost block. The last reports there.
+#[derive(Clone, Copy)]
 pub struct Chain<'a> {
     /// Their names, in order.
     pub names: &'a [Name],
