@@ -1,0 +1,16 @@
+pub mod Code
+pub mod Flat
+pub mod Placed
+pub mod Registers
+pub mod Cells
+pub mod Run
+pub mod Whole
+pub mod Located
+pub mod Walks
+pub mod Accepted
+pub mod Counts
+pub mod Needs
+pub mod Calls
+pub mod Order
+pub mod Liveness
+pub mod Laws
