@@ -2,7 +2,7 @@
 use Rattle.std.proofs.Common.{◌≡◌, ℕ, ◌+◌, ◌*◌, List, [], ◌∷◌, refl}
 use Rattle.lb_trace.specs.declared.Event.{Event}
 use Rattle.lb_trace.specs.declared.Event.TheVariants.{Ld, St}
-use Rattle.lb_syntax.specs.declared.tree.Op.TheVariants.{Add, Divu, Remu, Ltu, Eq}
+use Rattle.lb_syntax.specs.declared.tree.Op.TheVariants.{Add, Divu, Remu, Ltu}
 use Rattle.lb_syntax.specs.declared.tree.Width.TheVariants.{Four}
 use Rattle.lb_syntax.specs.declared.tree.Action.TheVariants.{Read, Write}
 use Rattle.lb_syntax.specs.declared.layout.FrameLayout.{FrameLayout}
@@ -140,7 +140,7 @@ abbrev placed_swaps : Executable Place
 placed_swaps = executable (routine 2 [] [] (
     Plain (Constant pins) [] (Register 18 ∷ []) ∷ Plain (Constant 5) [] (Register 30 ∷ []) ∷ Plain Copy (Register 30 ∷ []) (Slot 1 ∷ [])
     ∷ Plain (Call 2) (Register 18 ∷ Slot 1 ∷ []) (Slot 0 ∷ Register 18 ∷ []) ∷ Plain Copy (Slot 0 ∷ []) (Register 31 ∷ []) ∷ writes (Register 18) (Register 31) ∷ writes (Register 18) (Register 30) ∷ []))
-  (routine 1 (Slot 0 ∷ Register 18 ∷ []) (Register 18 ∷ Slot 0 ∷ []) [] ∷ [])
+    (routine 1 (Slot 0 ∷ Register 18 ∷ []) (Register 18 ∷ Slot 0 ∷ []) [] ∷ [])
 
 placed_call : placed_run placed_swaps frames 2 [] ≡ ends (St pins 5 ∷ St pins 5 ∷ []) Spent
 placed_call = refl

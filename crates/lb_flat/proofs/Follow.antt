@@ -73,7 +73,7 @@ module _ (Head Mid Body After : Cells → Cells → Type 0) (test test' : Cells 
   head_follows : (a b : Cells) (w : World) → Head a b → (f : Cells → World → Outcome Cells) (g : Cells → World → Outcome Cells)
       → ((c d : Cells) (u : World) → Mid c d → Follows After (f c u) (g d u))
       → Follows After (then_do (head a w) (λ c u. with_value (or_unset (test c)) u (λ v. at_zero v (Goes c u) (f c u))))
-          (then_do (head' b w) (λ d u. with_value (or_unset (test' d)) u (λ v. at_zero v (Goes d u) (g d u))))
+      (then_do (head' b w) (λ d u. with_value (or_unset (test' d)) u (λ v. at_zero v (Goes d u) (g d u))))
   head_follows a b w h f g k =
       then_follows Mid After _ _ (heads a b w h) (λ c d u m.
       value_follows After (or_unset (test c)) (or_unset (test' d)) u _ _ (one_read (test c) (test' d) (tests c d m)) (λ v e.

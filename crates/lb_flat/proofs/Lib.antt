@@ -1,3 +1,4 @@
+pub mod RegisterLemmas
 pub mod BooleanLemmas
 pub mod PutLemmas
 pub mod Follow
@@ -6,3 +7,4 @@ pub mod WalkLemmas
 pub mod ApartLemmas
 pub mod Keep
 mod Examples
+mod OrderExamples

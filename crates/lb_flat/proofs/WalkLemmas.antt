@@ -1,5 +1,5 @@
 -- Liveness by recursion on the tree is liveness by walks.
-use Rattle.std.proofs.Common.{◌≡◌, ℕ, Bool, true, false, not, ◌&&◌, ◌||◌, List, [], ◌∷◌, ◌++◌, refl, sym, ap, ◌∙◌}
+use Rattle.std.proofs.Common.{◌≡◌, ℕ, Bool, true, false, ◌||◌, List, [], ◌∷◌, ◌++◌, refl, sym, ap, ◌∙◌}
 use Rattle.lb_flat.specs.Code.{Code, Plain, Reserve, Branch, Loop, Nothing, Sequence}
 use Rattle.lb_flat.specs.Walks.{Step, step, IsWalk, does, reserves, takes_yes, takes_no, leaves, goes_round, ends, follows, among, is_read_first}
 use Rattle.lb_flat.specs.Liveness.{live_before, live}

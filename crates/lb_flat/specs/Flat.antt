@@ -1,6 +1,6 @@
 -- What a flat program says, as plain data.
-use Rattle.std.specs.Prelude.{ℕ, List, [], ◌∷◌, map}
-use Rattle.lb_flat.specs.Code.{Operation, Constant, Copy, Compute, Load, Store, Forget, Call, Access}
+use Rattle.std.specs.Prelude.{ℕ, [], ◌∷◌, map}
+use Rattle.lb_flat.specs.Code.{Constant, Copy, Compute, Load, Store, Forget, Call, Access}
 use Rattle.lb_flat.specs.Code.{Code, Plain, Reserve, Branch, Loop, chain, Routine, Executable}
 use Rattle.lb_flat.specs.declared.flat.FlatCmd.{FlatCmd, FlatCmd-F, fold-FlatCmd}
 use Rattle.lb_flat.specs.declared.flat.FlatCmd.TheOpen as open-Flat

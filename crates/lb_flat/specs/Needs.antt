@@ -1,6 +1,6 @@
 -- What flat and placed programs ask for, counted on their own trees: bytes of frames, words of code, and words of code that are loads
 -- or stores.
-use Rattle.std.specs.Prelude.{ℕ, ◌+◌, ◌*◌, nat_le, Bool, true, false, if◌then◌else◌, List, [], ◌∷◌, ◌++◌, length, map, sum}
+use Rattle.std.specs.Prelude.{ℕ, ◌+◌, ◌*◌, nat_le, Bool, true, false, if◌then◌else◌, List, ◌++◌, length, map, sum}
 use Rattle.lb_syntax.specs.declared.tree.Op.{Op}
 use Rattle.lb_syntax.specs.declared.tree.Op.TheVariants.{Eq}
 use Rattle.lb_syntax.specs.declared.limits.TheConstants.{NEAR_FRAME}

@@ -1,6 +1,6 @@
 -- What a placed program says, as plain data.
-use Rattle.std.specs.Prelude.{List, [], ◌∷◌, map}
-use Rattle.lb_flat.specs.Code.{Operation, Constant, Copy, Compute, Load, Store, Call, Access}
+use Rattle.std.specs.Prelude.{[], ◌∷◌, map}
+use Rattle.lb_flat.specs.Code.{Constant, Copy, Compute, Load, Store, Call, Access}
 use Rattle.lb_flat.specs.Code.{Code, Plain, Reserve, Branch, Loop, chain, Routine, Executable}
 use Rattle.lb_flat.specs.declared.places.Place.{Place}
 use Rattle.lb_flat.specs.declared.places.Place.TheVariants.{Register, Slot}

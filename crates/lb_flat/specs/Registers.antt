@@ -1,6 +1,6 @@
 -- The registers that are left to placed code.
-use Rattle.std.specs.Prelude.{◌≡◌, ℕ, ◌≤◌, ◌⊎◌}
-use Rattle.lb_flat.specs.declared.registers.TheConstants.{FIRST_VARIABLE_REGISTER, LAST_VARIABLE_REGISTER, FIRST_SCRATCH_REGISTER, SECOND_SCRATCH_REGISTER}
+use Rattle.std.specs.Prelude.{◌≡◌, ◌↔◌, ℕ, ◌≤◌, ◌⊎◌}
+use Rattle.lb_flat.specs.declared.registers.TheConstants.{FIRST_VARIABLE_REGISTER, LAST_VARIABLE_REGISTER, FIRST_SCRATCH_REGISTER, SECOND_SCRATCH_REGISTER, MOST_SAVED}
 
 -- a register in which a variable may be kept
 abbrev pub IsVariableRegister : ℕ → Type 0
@@ -13,3 +13,10 @@ IsScratchRegister r = (r ≡ FIRST_SCRATCH_REGISTER) ⊎ (r ≡ SECOND_SCRATCH_R
 -- a register that placed code may name
 abbrev pub IsPlacedRegister : ℕ → Type 0
 IsPlacedRegister r = IsVariableRegister r ⊎ IsScratchRegister r
+
+-- what the constants say: twelve registers for variables, two more for `place`, and as many saved as these fourteen and one more
+pub record RegistersAre : Type 0 where
+  pub variables : (r : ℕ) → IsVariableRegister r ↔ ((18 ≤ r) × (r ≤ 29))
+  pub scratch : (r : ℕ) → IsScratchRegister r ↔ ((30 ≤ r) × (r ≤ 31))
+  pub placed : (r : ℕ) → IsPlacedRegister r ↔ ((18 ≤ r) × (r ≤ 31))
+  pub saved : MOST_SAVED ≡ 15

@@ -9,7 +9,7 @@ mod places;
 mod registers;
 
 pub use flat::{FlatBlock, FlatCmd, FlatFunction, FlatProgram};
-pub use laws::{accepted_places_keep, liveness_is_by_walks};
+pub use laws::{accepted_places_keep, liveness_is_by_walks, registers_are};
 pub use placed::{PlacedBlock, PlacedCmd, PlacedFunction, PlacedProgram};
 pub use places::{FunctionPlaces, Place, Places};
 pub use registers::{
