@@ -1,0 +1,5 @@
+use Rattle.lb_grammar.proofs.Rows.{given_up}
+use Rattle.lb_grammar.proofs.laws.prefix_law.Goals as goal
+
+pub returns : goal.returns
+returns c = ?

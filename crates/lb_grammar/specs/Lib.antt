@@ -1,0 +1,11 @@
+pub mod Forms
+pub mod Packet
+pub mod Grammar
+pub mod Prefixes
+pub mod Rounds
+pub mod Machine
+pub mod Exchanging
+pub mod Transferring
+pub mod Booting
+pub mod Rounding
+pub mod Judging

@@ -1,0 +1,70 @@
+// The whole grammar: boot, and then rounds.
+ghost use Rattle.std.specs.Prelude.{◌≡◌, ◌+◌, ◌^◌, ◌<◌, ◌≤◌, IfSome};
+ghost use Rattle.lb_grammar.specs.declared.judging.Judging.TheVariants.{Round};
+ghost use Rattle.lb_grammar.specs.Machine.{inside};
+ghost use Rattle.lb_grammar.specs.Rounding.{round_step};
+ghost use Rattle.lb_grammar.specs.Judging.{after_round, judge_step, progress_of, rounds_of};
+
+use crate::boot::Booting;
+use crate::progress::{Ending, Progress};
+use crate::round::Rounding;
+use lb_trace::Event;
+
+/// Where a trace stands, and how many whole rounds it has so far.
+#[derive(Clone, Copy)]
+pub enum Judging {
+    Boot { at: Booting },
+    /// All that was begun is whole.
+    Between { rounds: u64 },
+    Round { rounds: u64, at: Rounding },
+    /// After a wait in vain.
+    Still { rounds: u64 },
+}
+
+impl Judging {
+    /// Before all events.
+    pub const START: Judging = Judging::Boot { at: Booting::FirstPin };
+
+    /// Reads the next event; `None` where the trace leaves the grammar with it.
+    pub fn after(self, event: Event) -> Option<Judging>
+        requires few { rounds_of self + 1 < 2 ^ 64 }
+        ensures step { progress_of result ≡ judge_step self event }
+        ensures few { IfSome result (λ s. rounds_of s ≤ rounds_of self + 1) }
+    {
+        match self {
+            Judging::Boot { at } => match at.after(event) {
+                Progress::Within(at) => Some(Judging::Boot { at }),
+                Progress::Done(Ending::Whole) => Some(Judging::Between { rounds: 0 }),
+                Progress::Done(Ending::GivenUp) => Some(Judging::Still { rounds: 0 }),
+                Progress::Off => None,
+            },
+            Judging::Between { rounds } => round_after(rounds, Rounding::START, event),
+            Judging::Round { rounds, at } => round_after(rounds, at, event),
+            Judging::Still { .. } => None,
+        }
+    }
+
+    /// The number of whole rounds.
+    pub fn rounds(self) -> u64
+        ensures { result ≡ rounds_of self }
+    {
+        match self {
+            Judging::Boot { .. } => 0,
+            Judging::Between { rounds } | Judging::Round { rounds, .. } | Judging::Still { rounds } => rounds,
+        }
+    }
+}
+
+// Reads the next event after so many rounds, in a round.
+fn round_after(rounds: u64, at: Rounding, event: Event) -> Option<Judging>
+    requires few { rounds + 1 < 2 ^ 64 }
+    ensures step { progress_of result ≡ inside (Round rounds) (after_round rounds) (round_step at event) }
+    ensures few { IfSome result (λ s. rounds_of s ≤ rounds + 1) }
+{
+    match at.after(event) {
+        Progress::Within(at) => Some(Judging::Round { rounds, at }),
+        Progress::Done(Ending::Whole) => Some(Judging::Between { rounds: rounds + 1 }),
+        Progress::Done(Ending::GivenUp) => Some(Judging::Still { rounds }),
+        Progress::Off => None,
+    }
+}

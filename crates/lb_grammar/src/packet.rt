@@ -1,0 +1,102 @@
+// What a packet's bytes and words say.
+ghost use Rattle.std.specs.Prelude.{◌≡◌, ◌≤◌, true, length};
+ghost use Rattle.lb_grammar.specs.Grammar.{waiting, with_command, word_count};
+ghost use Rattle.lb_grammar.specs.Packet.{command_of, is_valid};
+ghost use Rattle.lb_grammar.specs.Rounding.{command_seen, looks_udp, looks_valid, see};
+
+/// The command of a packet of these bytes, from the frame's destination address on, where the packet counts: the
+/// network chip marks no `error`, the length is 43 to 1,520, the bytes 12 to 14 say that it is IPv4 without
+/// options, and byte 23 says that it carries UDP. The command is bit 0 of byte 42: whether the lamp is to be on.
+pub fn command_of_packet(error: bool, bytes: &[u8]) -> Option<bool>
+    ensures { result ≡ command_of error bytes.now }
+{
+    if is_valid(error, bytes) {
+        Some(bytes[42] % 2 == 1)
+    } else {
+        None
+    }
+}
+
+// Whether the packet counts.
+fn is_valid(error: bool, bytes: &[u8]) -> bool
+    ensures valid { result ≡ is_valid error bytes.now }
+    ensures long { result ≡ true → 43 ≤ length bytes.now }
+{
+    !error
+        && (43 <= bytes.len() && bytes.len() <= 1520)
+        && bytes[12] == 0x08
+        && bytes[13] == 0x00
+        && bytes[14] == 0x45
+        && bytes[23] == 0x11
+}
+
+/// Those of a packet's words that hold a byte which is looked at, by their numbers from 0.
+#[derive(Clone, Copy)]
+pub struct Header {
+    /// How many words there were, 11 where there were more.
+    pub count: u32,
+    pub third: u32,
+    pub fifth: u32,
+    pub tenth: u32,
+}
+
+impl Header {
+    /// With the next word.
+    pub fn with_word(self, word: u32) -> Header
+        ensures { result ≡ see self word }
+    {
+        Header {
+            count: if self.count < 11 { self.count + 1 } else { self.count },
+            third: if self.count == 3 { word } else { self.third },
+            fifth: if self.count == 5 { word } else { self.fifth },
+            tenth: if self.count == 10 { word } else { self.tenth },
+        }
+    }
+
+    /// Whether the packet of this status counts.
+    pub fn is_valid(self, status: u32) -> bool
+        ensures { result ≡ looks_valid status self }
+    {
+        let length = status / 0x1_0000 % 0x4000;
+        status / 0x8000 % 2 != 1 && 43 <= length && length <= 1520 && self.is_udp()
+    }
+
+    // Whether it carries UDP.
+    fn is_udp(self) -> bool
+        ensures { result ≡ looks_udp self }
+    {
+        self.third % 256 == 0x08
+            && self.third / 256 % 256 == 0x00
+            && self.third / 0x1_0000 % 256 == 0x45
+            && self.fifth / 0x100_0000 % 256 == 0x11
+    }
+
+    /// The packet's command.
+    pub fn command(self) -> bool
+        ensures { result ≡ command_seen self }
+    {
+        self.tenth / 0x1_0000 % 256 % 2 == 1
+    }
+}
+
+/// How many words a packet of this status has.
+pub fn word_count(status: u32) -> u32
+    ensures { result ≡ word_count status }
+{
+    (status / 0x1_0000 % 0x4000 + 3) / 4
+}
+
+/// How many packets wait, by the value of the register that tells it.
+pub fn waiting(value: u32) -> u32
+    ensures { result ≡ waiting value }
+{
+    value / 0x1_0000 % 256
+}
+
+/// The value with bit 23 set to the command.
+pub fn with_command(value: u32, command: bool) -> u32
+    ensures { result ≡ with_command value command }
+{
+    let bit = if command { 0x80_0000 } else { 0 };
+    value / 0x100_0000 * 0x100_0000 + bit + value % 0x80_0000
+}
