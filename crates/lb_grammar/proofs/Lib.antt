@@ -1,1 +1,5 @@
 mod Rows
+mod PrefixLemmas
+mod EndLemmas
+mod Same
+mod Followed

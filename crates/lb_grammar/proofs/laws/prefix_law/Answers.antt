@@ -1,5 +1,6 @@
 use Rattle.lb_grammar.proofs.Rows.{given_up}
+use Rattle.lb_grammar.proofs.EndLemmas.{prefix_law}
 use Rattle.lb_grammar.proofs.laws.prefix_law.Goals as goal
 
 pub returns : goal.returns
-returns c = ?
+returns c = prefix_law

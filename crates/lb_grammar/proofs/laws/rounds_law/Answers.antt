@@ -1,0 +1,5 @@
+use Rattle.lb_grammar.proofs.Followed.{tries}
+use Rattle.lb_grammar.proofs.laws.rounds_law.Goals as goal
+
+pub returns : goal.returns
+returns c = ?
