@@ -88,7 +88,7 @@ either_in form j k l (inr h) = onward form (λ m s. inr s) l h
 pub followed_or : (form : Form) (j k : Lists) → Same (Followed form (Or j k)) (Or (Followed form j) (Followed form k))
 followed_or form j k = record { to = either_out form j k; from = either_in form j k }
 
-some_out : (form : Form) (test : ℕ → Bool) (k : ℕ → Lists) (l : List Event) → Followed form (Some test k) l → Some test (λ v. Followed form (k v)) l
+pub some_out : (form : Form) (test : ℕ → Bool) (k : ℕ → Lists) (l : List Event) → Followed form (Some test k) l → Some test (λ v. Followed form (k v)) l
 some_out form test k l h =
     let i : Concat (Is form) (Some test k) l = to_parts form (Some test k) l h in
     (i.second.0, i.second.1, from_parts form (k i.second.0) l (record { front = i.front; back = i.back; first = i.first; second = i.second.2; whole = i.whole }))

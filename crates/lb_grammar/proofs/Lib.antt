@@ -3,3 +3,8 @@ mod PrefixLemmas
 mod EndLemmas
 mod Same
 mod Followed
+mod Reading
+mod ExchangeReads
+mod WordLemmas
+mod PlaceLemmas
+mod TransferReads

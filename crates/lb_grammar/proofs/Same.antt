@@ -52,3 +52,21 @@ bracket {i} {j} {k} = record { to = bracketed i j k; from = rebracketed i j k }
 
 pub some_same : {test : ℕ → Bool} {j k : ℕ → Lists} → ((v : ℕ) → IsTrue (test v) → Same (j v) (k v)) → Same (Some test j) (Some test k)
 some_same g = record { to = λ l h. (h.0, h.1, (g h.0 h.1).to l h.2); from = λ l h. (h.0, h.1, (g h.0 h.1).from l h.2) }
+
+pub some_or : (test : ℕ → Bool) (j k : ℕ → Lists) → Same (Some test (λ v. Or (j v) (k v))) (Or (Some test j) (Some test k))
+some_or test j k = record { to = λ l h. by_kind l h.0 h.1 h.2; from = from }
+  where
+    by_kind : (l : List Event) (v : ℕ) → IsTrue (test v) → Or (j v) (k v) l → Or (Some test j) (Some test k) l
+    by_kind l v t (inl h) = inl (v, t, h)
+    by_kind l v t (inr h) = inr (v, t, h)
+
+    from : (l : List Event) → Or (Some test j) (Some test k) l → Some test (λ v. Or (j v) (k v)) l
+    from l (inl h) = (h.0, h.1, inl h.2)
+    from l (inr h) = (h.0, h.1, inr h.2)
+
+pub or_nothing : (j : Lists) {k : Lists} → ((l : List Event) → k l → ⊥) → Same j (Or j k)
+or_nothing j {k} empty = record { to = λ l h. inl h; from = from }
+  where
+    from : (l : List Event) → Or j k l → j l
+    from l (inl h) = h
+    from l (inr h) = absurd (empty l h)
