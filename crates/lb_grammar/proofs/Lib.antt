@@ -8,3 +8,5 @@ mod ExchangeReads
 mod WordLemmas
 mod PlaceLemmas
 mod TransferReads
+mod TestLemmas
+mod BootReads
