@@ -1,9 +1,9 @@
 -- Members of a form with what follows them: sequences are nested, so that no list is ever taken apart by hand.
-use Rattle.std.proofs.Common.{◌≡◌, ℕ, zero, suc, ◌≤◌, Bool, true, IsTrue, nat_le, ◌⊎◌, inl, inr, List, [], ◌∷◌, ◌++◌, refl, sym, ap, ◌∙◌, subst, arith, append_assoc, append-nil}
+use Rattle.std.proofs.Common.{◌≡◌, ℕ, zero, suc, ◌≤◌, Bool, true, IsTrue, nat_le, nat_lt, ◌⊎◌, inl, inr, List, [], ◌∷◌, ◌++◌, refl, sym, ap, ◌∙◌, subst, arith, append_assoc, append-nil}
 use Rattle.std.proofs.lemmas.Bool.Decides.{nat_tests}
 use Rattle.lb_trace.specs.declared.Event.{Event}
-use Rattle.lb_grammar.specs.Forms.{Form, Nothing, One, Sequence, Exactly, Any, AnyList, Either, at_most, Lists, Concat, Repeated, none, more, Is}
-use Rattle.lb_grammar.proofs.Same.{Same, Or, Some, same, chain, or_same, swap, bracket, back as reversed}
+use Rattle.lb_grammar.specs.Forms.{Form, Nothing, One, Sequence, Exactly, Any, AnyList, Either, at_most, fewer_than, Lists, Concat, Repeated, none, more, Is}
+use Rattle.lb_grammar.proofs.Same.{Same, Or, Some, SomeList, same, chain, or_same, swap, bracket, back as reversed}
 
 -- a member of the form, and then a list of the kind
 abbrev pub Followed : Form → Lists → Lists
@@ -96,6 +96,14 @@ some_out form test k l h =
 pub followed_some : (form : Form) (test : ℕ → Bool) (k : ℕ → Lists) → Same (Followed form (Some test k)) (Some test (λ v. Followed form (k v)))
 followed_some form test k = record { to = some_out form test k; from = λ l h. onward form (λ m s. (h.0, h.1, s)) l h.2 }
 
+pub list_out : (form : Form) (test : List ℕ → Bool) (k : List ℕ → Lists) (l : List Event) → Followed form (SomeList test k) l → SomeList test (λ vs. Followed form (k vs)) l
+list_out form test k l h =
+    let i : Concat (Is form) (SomeList test k) l = to_parts form (SomeList test k) l h in
+    (i.second.0, i.second.1, from_parts form (k i.second.0) l (record { front = i.front; back = i.back; first = i.first; second = i.second.2; whole = i.whole }))
+
+pub followed_list : (form : Form) (test : List ℕ → Bool) (k : List ℕ → Lists) → Same (Followed form (SomeList test k)) (SomeList test (λ vs. Followed form (k vs)))
+followed_list form test k = record { to = list_out form test k; from = λ l h. onward form (λ m s. (h.0, h.1, s)) l h.2 }
+
 -- nothing follows
 abbrev pub AtEnd : Lists
 AtEnd l = l ≡ []
@@ -163,18 +171,45 @@ at_most_none item k = record { to = λ l h. by_count l h.0 h.1 h.2; from = λ l 
     by_count l zero c h = (no_times item k).to l h
     by_count l (suc n) c h = absurd (none_below n c)
 
-at_most_more : (item : Form) (n : ℕ) (k : Lists) → Same (Followed (at_most (suc n) item) k) (Or k (Followed item (Followed (at_most n item) k)))
-at_most_more item n k = record { to = λ l h. by_count l h.0 h.1 h.2; from = from }
-  where
-    by_count : (l : List Event) (c : ℕ) → IsTrue (nat_le c (suc n)) → Followed (Exactly c item) k l → Or k (Followed item (Followed (at_most n item) k)) l
-    by_count l zero c h = inl ((no_times item k).to l h)
-    by_count l (suc m) c h = inr (onward item (λ q s. (m, fewer m n c, s)) l ((one_time_more item m k).to l h))
+-- counts that pass a test, and counts that pass another one when they are one less
+module _ (item : Form) (t u : ℕ → Bool) (least : IsTrue (u zero)) (down : (c : ℕ) → IsTrue (u (suc c)) → IsTrue (t c)) (up : (c : ℕ) → IsTrue (t c) → IsTrue (u (suc c))) (k : Lists) where
+  abbrev Counted : (ℕ → Bool) → Lists
+  Counted test = Followed (Any test (λ c. Exactly c item)) k
 
-    from : (l : List Event) → Or k (Followed item (Followed (at_most n item) k)) l → Followed (at_most (suc n) item) k l
-    from l (inl h) = (zero, few (suc n), (no_times item k).from l h)
-    from l (inr h) =
-        let i : Concat (Is item) (Followed (at_most n item) k) l = to_parts item (Followed (at_most n item) k) l h in
-        (suc i.second.0, one_more i.second.0 n i.second.1, (one_time_more item i.second.0 k).from l (from_parts item (Followed (Exactly i.second.0 item) k) l (record { front = i.front; back = i.back; first = i.first; second = i.second.2; whole = i.whole })))
+  by_count : (l : List Event) (c : ℕ) → IsTrue (u c) → Followed (Exactly c item) k l → Or k (Followed item (Counted t)) l
+  by_count l zero i h = inl ((no_times item k).to l h)
+  by_count l (suc c) i h = inr (onward item (λ q s. (c, down c i, s)) l ((one_time_more item c k).to l h))
+
+  from : (l : List Event) → Or k (Followed item (Counted t)) l → Counted u l
+  from l (inl h) = (zero, least, (no_times item k).from l h)
+  from l (inr h) =
+      let i : Concat (Is item) (Counted t) l = to_parts item (Counted t) l h in
+      let c : ℕ = i.second.0 in
+      (suc c, up c i.second.1, (one_time_more item c k).from l (from_parts item (Followed (Exactly c item) k) l (record { front = i.front; back = i.back; first = i.first; second = i.second.2; whole = i.whole })))
+
+  one_count_more : Same (Counted u) (Or k (Followed item (Counted t)))
+  one_count_more = record { to = λ l h. by_count l h.0 h.1 h.2; from = from }
+
+at_most_more : (item : Form) (n : ℕ) (k : Lists) → Same (Followed (at_most (suc n) item) k) (Or k (Followed item (Followed (at_most n item) k)))
+at_most_more item n k = one_count_more item (λ c. nat_le c n) (λ c. nat_le c (suc n)) (few (suc n)) (λ c i. fewer c n i) (λ c i. one_more c n i) k
+
+fewer_below : (k n : ℕ) → IsTrue (nat_lt (suc k) (suc n)) → IsTrue (nat_lt k n)
+fewer_below k n h = grind (arith, nat_tests)
+
+one_more_below : (k n : ℕ) → IsTrue (nat_lt k n) → IsTrue (nat_lt (suc k) (suc n))
+one_more_below k n h = grind (arith, nat_tests)
+
+zero_below : (n : ℕ) → IsTrue (nat_lt 0 (suc n))
+zero_below n = grind (arith, nat_tests)
+
+nothing_below : (k : ℕ) → IsTrue (nat_lt k 0) → ⊥
+nothing_below k h = grind (arith, nat_tests)
+
+pub fewer_than_more : (item : Form) (n : ℕ) (k : Lists) → Same (Followed (fewer_than (suc n) item) k) (Or k (Followed item (Followed (fewer_than n item) k)))
+fewer_than_more item n k = one_count_more item (λ c. nat_lt c n) (λ c. nat_lt c (suc n)) (zero_below n) (λ c i. fewer_below c n i) (λ c i. one_more_below c n i) k
+
+pub fewer_than_none : (item : Form) (k : Lists) (l : List Event) → Followed (fewer_than zero item) k l → ⊥
+fewer_than_none item k l h = nothing_below h.0 h.1
 
 -- ---- tries: each is in vain, and then the next one comes, as long as some are left, or it is served
 

@@ -10,3 +10,5 @@ mod PlaceLemmas
 mod TransferReads
 mod TestLemmas
 mod BootReads
+mod HeaderLemmas
+mod RoundReads

@@ -14,6 +14,10 @@ Or j k l = j l ⊎ k l
 abbrev pub Some : (ℕ → Bool) → (ℕ → Lists) → Lists
 Some test k l = (v : ℕ) × IsTrue (test v) × k v l
 
+-- of the kind of some list of numbers that passes the test
+abbrev pub SomeList : (List ℕ → Bool) → (List ℕ → Lists) → Lists
+SomeList test k l = (vs : List ℕ) × IsTrue (test vs) × k vs l
+
 pub same : {j : Lists} → Same j j
 same = record { to = λ l h. h; from = λ l h. h }
 
@@ -70,3 +74,6 @@ or_nothing j {k} empty = record { to = λ l h. inl h; from = from }
     from : (l : List Event) → Or j k l → j l
     from l (inl h) = h
     from l (inr h) = absurd (empty l h)
+
+pub list_same : {test : List ℕ → Bool} {j k : List ℕ → Lists} → ((vs : List ℕ) → IsTrue (test vs) → Same (j vs) (k vs)) → Same (SomeList test j) (SomeList test k)
+list_same g = record { to = λ l h. (h.0, h.1, (g h.0 h.1).to l h.2); from = λ l h. (h.0, h.1, (g h.0 h.1).from l h.2) }

@@ -1,4 +1,4 @@
-use Rattle.lb_grammar.proofs.BootReads.{boot_same}
+use Rattle.lb_grammar.proofs.RoundReads.{round_same}
 use Rattle.lb_grammar.proofs.laws.rounds_law.Goals as goal
 
 pub returns : goal.returns
