@@ -121,7 +121,7 @@ alone form = record { to = to; from = from }
 
 -- ---- repetitions
 
-no_times : (item : Form) (k : Lists) → Same (Followed (Exactly zero item) k) k
+pub no_times : (item : Form) (k : Lists) → Same (Followed (Exactly zero item) k) k
 no_times item k = record { to = to; from = λ l h. record { front = []; back = l; first = none refl; second = h; whole = refl } }
   where
     by_first : (front back l : List Event) → Repeated (Is item) zero front → k back → l ≡ front ++ back → k l

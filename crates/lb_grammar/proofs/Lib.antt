@@ -12,3 +12,5 @@ mod TestLemmas
 mod BootReads
 mod HeaderLemmas
 mod RoundReads
+mod JudgeReads
+mod AliveLemmas

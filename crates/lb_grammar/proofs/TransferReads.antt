@@ -59,18 +59,18 @@ abbrev close : Form
 close = One (St csmode 0)
 
 module _ (next : Option ℕ → Lists) where
-  abbrev GivenUp : Lists
+  abbrev pub GivenUp : Lists
   GivenUp = Followed close (next None)
 
-  abbrev Sends : List ℕ → ℕ → Lists
+  abbrev pub Sends : List ℕ → ℕ → Lists
   Sends [] word = Followed close (next (Some word))
   Sends (b ∷ bytes) word = Or (ForSome is_byte (λ r. Followed (xchg b r) (Sends bytes (pushed word r)))) (Followed (no_xchg b) GivenUp)
 
   module _ (bytes : List ℕ) where
-    abbrev R : Progress Transfer (Option ℕ) → Lists
+    abbrev pub R : Progress Transfer (Option ℕ) → Lists
     R = Reads (transfer_step bytes) Nowhere next
 
-    closing : (x : Option ℕ) → Same (R (Within (Closing x))) (Followed close (next x))
+    pub closing : (x : Option ℕ) → Same (R (Within (Closing x))) (Followed close (next x))
     closing x = store_same (transfer_step bytes) Nowhere next (Closing x) csmode 0 (Done x) (λ h. h) (λ d v. refl) (λ d v. refl)
 
     opening : Same (R (Within Opening)) (Followed (One (St csmode 2)) (R (Within (next_byte bytes 0 0))))
@@ -78,7 +78,7 @@ module _ (next : Option ℕ → Lists) where
 
     -- at a place within the list
     module _ (b place word : ℕ) (t : nat_lt place (length bytes) ≡ true) (byte : slice_index bytes place ≡ b) where
-      steps : (s : Exchange) (e : Event) → transfer_step bytes (Sending place word s) e ≡ inside (Sending place word) (after_answer bytes place word) (exchange_step b s e)
+      pub steps : (s : Exchange) (e : Event) → transfer_step bytes (Sending place word s) e ≡ inside (Sending place word) (after_answer bytes place word) (exchange_step b s e)
       steps s e =
           ap (λ (q : Bool). if q then inside (Sending place word) (after_answer bytes place word) (exchange_step (slice_index bytes place) s e) else Off) t
           ∙ ap (λ (q : ℕ). inside (Sending place word) (after_answer bytes place word) (exchange_step q s e)) byte
@@ -94,7 +94,7 @@ module _ (next : Option ℕ → Lists) where
     same_kind : {j k : Lists} → j ≡ k → Same j k
     same_kind {j} e = subst (Same j) e same
 
-    sends_same : (left : List ℕ) (place word : ℕ) → drop place bytes ≡ left → Same (R (Within (next_byte bytes place word))) (Sends left word)
+    pub sends_same : (left : List ℕ) (place word : ℕ) → drop place bytes ≡ left → Same (R (Within (next_byte bytes place word))) (Sends left word)
     sends_same [] place word h = chain (same_kind (next_is place word false (none_next bytes place h))) (closing (Some word))
     sends_same (b ∷ left) place word h =
         let g : IsNext bytes place b left = is_next bytes place b left h in
