@@ -37,7 +37,7 @@ shorter (x ∷ front) back l h e =
     let n : length l ≡ length (x ∷ front) + length back = ap length e ∙ length-append (x ∷ front) back in
     omega (arith, n)
 
-abbrev any_count : ℕ → Bool
+abbrev pub any_count : ℕ → Bool
 any_count c = true
 
 -- states between rounds and after a wait in vain, by the number of rounds

@@ -14,3 +14,6 @@ mod HeaderLemmas
 mod RoundReads
 mod JudgeReads
 mod AliveLemmas
+mod PlacedLemmas
+mod JudgeLemmas
+mod RoundLemmas
