@@ -17,3 +17,4 @@ mod AliveLemmas
 mod PlacedLemmas
 mod JudgeLemmas
 mod RoundLemmas
+mod Followings
