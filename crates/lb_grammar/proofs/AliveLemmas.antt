@@ -1,9 +1,9 @@
 -- From each state that is reached some list leads to a state of rest.
-use Rattle.std.proofs.Common.{◌≡◌, ℕ, zero, suc, ◌+◌, ◌==◌, Bool, true, false, IsTrue, nat_lt, inl, inr, Option, Some, None, List, [], ◌∷◌, ◌++◌, length, drop, slice_index, refl, arith, if◌then◌else◌}
+use Rattle.std.proofs.Common.{◌≡◌, ℕ, zero, suc, ◌+◌, ◌==◌, Bool, true, false, nat_lt, inl, Option, Some, None, List, [], ◌∷◌, ◌++◌, length, drop, slice_index, refl, arith, if◌then◌else◌}
 use Rattle.lb_trace.specs.declared.Event.{Event}
 use Rattle.lb_trace.specs.declared.Event.TheVariants.{Ld, St}
 use Rattle.lb_grammar.specs.declared.progress.Progress.{Progress}
-use Rattle.lb_grammar.specs.declared.progress.Progress.TheVariants.{Within, Done, Off}
+use Rattle.lb_grammar.specs.declared.progress.Progress.TheVariants.{Within, Done}
 use Rattle.lb_grammar.specs.declared.progress.Ending.{Ending}
 use Rattle.lb_grammar.specs.declared.progress.Ending.TheVariants.{Whole, GivenUp}
 use Rattle.lb_grammar.specs.declared.exchange.Exchange.{Exchange}
@@ -22,11 +22,10 @@ use Rattle.lb_grammar.specs.Exchanging.{exchange_step}
 use Rattle.lb_grammar.specs.Transferring.{pushed, next_byte, after_answer, transfer_step}
 use Rattle.lb_grammar.specs.Booting.{after_byte_test, after_write, after_busy, boot_step}
 use Rattle.lb_grammar.specs.Rounding.{nothing_seen, see, looks_valid, command_seen, words_left, after_info, after_status, after_word, round_step}
-use Rattle.lb_grammar.proofs.Followed.{Followed, joined}
+use Rattle.lb_grammar.proofs.Followed.{joined}
 use Rattle.lb_grammar.proofs.Reading.{store_same, inside_same}
-use Rattle.lb_grammar.proofs.ExchangeReads.{exchange_same}
 use Rattle.lb_grammar.proofs.TransferReads.{Sends, closing, sends_same, steps}
-use Rattle.lb_grammar.proofs.EndLemmas.{Ends, xchg_ends}
+use Rattle.lb_grammar.proofs.EndLemmas.{xchg_ends}
 
 -- a list of the kind
 abbrev pub Example : Lists → Type 0

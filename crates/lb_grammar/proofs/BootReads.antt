@@ -1,5 +1,5 @@
 -- The machine of boot reads the boots, and those that were given up.
-use Rattle.std.proofs.Common.{◌≡◌, ℕ, zero, suc, ◌&&◌, ◌==◌, not, Bool, true, false, IsTrue, ◌⊎◌, inl, inr, Option, Some, None, List, refl, arith, if◌then◌else◌}
+use Rattle.std.proofs.Common.{ℕ, zero, suc, ◌&&◌, ◌==◌, not, IsTrue, inl, inr, List, refl, arith, if◌then◌else◌}
 use Rattle.std.proofs.lemmas.Bool.Decides.{nat_tests}
 use Rattle.lb_trace.specs.declared.Event.{Event}
 use Rattle.lb_trace.specs.declared.Event.TheVariants.{St}
@@ -54,10 +54,10 @@ module _ (next : Ending → Lists) where
       chain (inside_same (transfer_step (read_bytes mac_csr_cmd)) boot_step (MacBusy n) (after_busy n) Nowhere next (λ s e. refl) (λ s h. h) (Within Opening))
       (chain (read_same (λ x. R (after_busy n x)) mac_csr_cmd)
       (chain (or_same
-        (chain (by_test_same (rd mac_csr_cmd) is_ready (λ b. R (if b then Done Whole else again n (λ m. MacBusy m Opening) GivenUp)))
-          (or_same (any_same (λ v. is_word v && is_ready v) is_ready (rd mac_csr_cmd) (next Whole) ready_word word_ready)
-            (any_same (λ v. is_word v && not (is_ready v)) is_busy (rd mac_csr_cmd) (R (again n (λ m. MacBusy m Opening) GivenUp)) busy_word word_busy)))
-        same) rotate))
+      (chain (by_test_same (rd mac_csr_cmd) is_ready (λ b. R (if b then Done Whole else again n (λ m. MacBusy m Opening) GivenUp)))
+      (or_same (any_same (λ v. is_word v && is_ready v) is_ready (rd mac_csr_cmd) (next Whole) ready_word word_ready)
+      (any_same (λ v. is_word v && not (is_ready v)) is_busy (rd mac_csr_cmd) (R (again n (λ m. MacBusy m Opening) GivenUp)) busy_word word_busy)))
+      same) rotate))
 
   abbrev Busy : Lists
   Busy =
@@ -105,9 +105,9 @@ module _ (next : Ending → Lists) where
       chain (inside_same (transfer_step (read_bytes byte_test)) boot_step (ByteTest n) (after_byte_test n) Nowhere next (λ s e. refl) (λ s h. h) (Within Opening))
       (chain (read_same (λ x. R (after_byte_test n x)) byte_test)
       (chain (or_same
-        (chain (by_test_same (rd byte_test) (λ v. v == byte_order) (λ b. R (if b then Within (HwCfg Opening) else again n (λ m. ByteTest m Opening) GivenUp)))
-          (or_same (chain (only byte_order (rd byte_test) (R (Within (HwCfg Opening))) refl) (followed_same (rd byte_test byte_order) config)) same))
-        same) rotate))
+      (chain (by_test_same (rd byte_test) (λ v. v == byte_order) (λ b. R (if b then Within (HwCfg Opening) else again n (λ m. ByteTest m Opening) GivenUp)))
+      (or_same (chain (only byte_order (rd byte_test) (R (Within (HwCfg Opening))) refl) (followed_same (rd byte_test byte_order) config)) same))
+      same) rotate))
 
   abbrev Tested : Lists
   Tested =
@@ -145,18 +145,18 @@ module _ (next : Ending → Lists) where
   abbrev Last : Lists
   Last =
       Or (Or (Followed boot (next Whole))
-          (Or (Followed (Sequence set_up (Sequence (at_most 999 busy) (no_rd mac_csr_cmd))) (next GivenUp)) (Followed (Sequence set_up (Exactly 1000 busy)) (next GivenUp))))
+      (Or (Followed (Sequence set_up (Sequence (at_most 999 busy) (no_rd mac_csr_cmd))) (next GivenUp)) (Followed (Sequence set_up (Exactly 1000 busy)) (next GivenUp))))
       (Followed (Sequence data_set (no_wr mac_csr_cmd 0x80000001)) (next GivenUp))
 
   after_found : Same (Followed found Config) (Or (Or Last (Followed (Sequence hw_set (no_wr mac_csr_data 0x0C)) (next GivenUp))) (Followed (Sequence found (no_wr hw_cfg 0x100000)) (next GivenUp)))
   after_found =
       chain (followed_or found (Followed wr_hw_cfg Data) (Followed (no_wr hw_cfg 0x100000) (next GivenUp)))
       (or_same
-        (chain (followed_or hw_set (Followed wr_mac_data Cmd) (Followed (no_wr mac_csr_data 0x0C) (next GivenUp)))
-          (or_same
-            (chain (followed_or data_set (Followed wr_mac_cmd Busy) (Followed (no_wr mac_csr_cmd 0x80000001) (next GivenUp))) (or_same after_set_up same))
-            same))
-        same)
+      (chain (followed_or hw_set (Followed wr_mac_data Cmd) (Followed (no_wr mac_csr_data 0x0C) (next GivenUp)))
+      (or_same
+      (chain (followed_or data_set (Followed wr_mac_cmd Busy) (Followed (no_wr mac_csr_cmd 0x80000001) (next GivenUp))) (or_same after_set_up same))
+      same))
+      same)
 
   abbrev Given : Form → Lists
   Given form = Followed form (next GivenUp)

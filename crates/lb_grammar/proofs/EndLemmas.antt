@@ -4,8 +4,8 @@ use Rattle.std.proofs.lemmas.Bool.Decides.{nat_tests}
 use Rattle.lb_word.specs.Bytes.{bytes_of_word}
 use Rattle.lb_trace.specs.declared.Event.{Event}
 use Rattle.lb_trace.specs.declared.Event.TheVariants.{Ld, St}
-use Rattle.lb_grammar.specs.Forms.{Form, Nothing, One, Sequence, Exactly, Any, AnyList, Either, at_most, fewer_than, Is}
-use Rattle.lb_grammar.specs.Grammar.{rxdata, txdata, is_byte, is_word, is_busy, is_ready, busy_load, ready_load, answer_load, sent, xchg, no_xchg, free_xchg, free_xchgs, answers, broken_off, transaction, read_head, read_bytes, write_bytes, rd, no_rd, wr, no_wr, pins, vain, busy, found, set_up, boot, no_boot, empty, filled, has_words, word_count, words, packet, no_words, switch, round, no_round, good, rx_data_fifo}
+use Rattle.lb_grammar.specs.Forms.{Form, Nothing, One, Sequence, Exactly, Any, Either, at_most}
+use Rattle.lb_grammar.specs.Grammar.{rxdata, txdata, is_byte, is_word, is_ready, busy_load, ready_load, sent, xchg, no_xchg, free_xchg, free_xchgs, answers, broken_off, transaction, read_head, read_bytes, write_bytes, rd, no_rd, wr, no_wr, pins, vain, busy, found, set_up, boot, no_boot, empty, filled, has_words, word_count, words, packet, no_words, switch, round, no_round, good, rx_data_fifo}
 use Rattle.lb_grammar.specs.Prefixes.{CanEnd, HasMember, PrefixLaw}
 use Rattle.lb_grammar.proofs.PrefixLemmas.{repeat, are_its_prefixes}
 

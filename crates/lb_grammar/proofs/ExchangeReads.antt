@@ -1,5 +1,5 @@
 -- The machine of an exchange reads the exchanges, and those that were given up.
-use Rattle.std.proofs.Common.{◌≡◌, ℕ, zero, suc, ◌%◌, ◌&&◌, ◌==◌, Bool, true, false, IsTrue, ◌⊎◌, inl, inr, Option, Some, None, List, [], ◌∷◌, refl, sym, ap, ◌∙◌, subst, arith, if◌then◌else◌}
+use Rattle.std.proofs.Common.{◌≡◌, ℕ, zero, suc, ◌%◌, ◌&&◌, ◌==◌, Bool, true, false, IsTrue, inl, inr, Option, Some, None, List, [], ◌∷◌, refl, sym, ap, ◌∙◌, subst, arith, if◌then◌else◌}
 use Rattle.std.proofs.lemmas.Bool.Decides.{nat_tests}
 use Rattle.lb_trace.specs.declared.Event.{Event}
 use Rattle.lb_trace.specs.declared.Event.TheVariants.{Ld, St}
@@ -110,8 +110,8 @@ module _ (b : ℕ) (next : Option ℕ → Lists) where
   exchange_same =
       chain room
       (chain (or_same
-        (chain (followed_same (Sequence (at_most 999 (busy_load txdata)) (ready_load txdata)) (chain sending (followed_same (One (St txdata b)) answer)))
-          (chain (followed_or (sent b) (Followed (at_most 999 (busy_load rxdata)) Answers) (Followed (Exactly 1000 (busy_load rxdata)) (next None)))
-            (or_same (chain (followed_same before_answer answered) (followed_some before_answer is_byte (λ r. Followed (answer_load r) (next (Some r))))) same)))
-        same)
+      (chain (followed_same (Sequence (at_most 999 (busy_load txdata)) (ready_load txdata)) (chain sending (followed_same (One (St txdata b)) answer)))
+      (chain (followed_or (sent b) (Followed (at_most 999 (busy_load rxdata)) Answers) (Followed (Exactly 1000 (busy_load rxdata)) (next None)))
+      (or_same (chain (followed_same before_answer answered) (followed_some before_answer is_byte (λ r. Followed (answer_load r) (next (Some r))))) same)))
+      same)
       (chain bracket (or_same same swap)))

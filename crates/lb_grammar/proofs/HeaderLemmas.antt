@@ -1,12 +1,12 @@
 -- What was seen of a packet's words says what its bytes say.
-use Rattle.std.proofs.Common.{◌≡◌, ℕ, zero, suc, ◌+◌, ◌*◌, ◌/◌, ◌%◌, ◌≤◌, ◌<◌, min, ◌==◌, ◌&&◌, not, nat_le, Bool, true, false, IsTrue, List, [], ◌∷◌, ◌++◌, length, take, get_or, slice_index, flat_map, refl, sym, ap, ◌∙◌, arith}
+use Rattle.std.proofs.Common.{◌≡◌, ℕ, ◌*◌, ◌%◌, ◌≤◌, ◌<◌, min, ◌==◌, ◌&&◌, not, nat_le, Bool, true, false, IsTrue, List, [], ◌∷◌, length, slice_index, flat_map, refl, sym, ap, ◌∙◌, arith}
 use Rattle.std.proofs.lemmas.Bool.Decides.{nat_tests}
 use Rattle.std.proofs.lemmas.List.{get_or-take, length-take}
 use Rattle.lb_word.specs.Bytes.{bytes_of_word}
 use Rattle.lb_grammar.specs.declared.packet.Header.{Header}
-use Rattle.lb_grammar.specs.Packet.{has_fit_length, is_udp, is_valid, command}
+use Rattle.lb_grammar.specs.Packet.{is_udp, command}
 use Rattle.lb_grammar.specs.Grammar.{length_of, has_error, word_count, packet_bytes, is_valid_packet}
-use Rattle.lb_grammar.specs.Rounding.{nothing_seen, see, see_all, looks_udp, looks_valid, command_seen}
+use Rattle.lb_grammar.specs.Rounding.{nothing_seen, see_all, looks_udp, looks_valid, command_seen}
 
 abbrev all_bytes : List ℕ → List ℕ
 all_bytes ws = flat_map bytes_of_word ws

@@ -1,7 +1,6 @@
 -- Where a list leads the whole machine says whether it is a prefix, and how many whole rounds it has.
-use Rattle.std.proofs.Common.{◌≡◌, ℕ, zero, suc, ◌+◌, ◌≤◌, ◌⊎◌, inl, inr, List, [], ◌∷◌, ◌++◌, refl, sym, ap, ◌∙◌, subst, arith, append-nil}
+use Rattle.std.proofs.Common.{◌≡◌, ℕ, ◌+◌, ◌≤◌, ◌⊎◌, inl, inr, List, [], ◌∷◌, ◌++◌, refl, sym, ap, ◌∙◌, subst, arith, append-nil}
 use Rattle.lb_trace.specs.declared.Event.{Event}
-use Rattle.lb_trace.specs.Prefix.{IsPrefix}
 use Rattle.lb_grammar.specs.declared.progress.Progress.{Progress}
 use Rattle.lb_grammar.specs.declared.progress.Progress.TheVariants.{Within, Done, Off}
 use Rattle.lb_grammar.specs.declared.progress.Ending.{Ending}
@@ -13,17 +12,16 @@ use Rattle.lb_grammar.specs.declared.round.Rounding.{Rounding}
 use Rattle.lb_grammar.specs.declared.round.Rounding.TheVariants.{Info}
 use Rattle.lb_grammar.specs.declared.judging.Judging.{Judging}
 use Rattle.lb_grammar.specs.declared.judging.Judging.TheVariants.{Boot, Between, Round, Still}
-use Rattle.lb_grammar.specs.Forms.{Form, Sequence, Exactly, any_number, Lists, Concat, Is, Begins}
+use Rattle.lb_grammar.specs.Forms.{Form, Sequence, Exactly, any_number, Lists, Is, Begins}
 use Rattle.lb_grammar.specs.Grammar.{boot, no_boot, round, no_round, good}
 use Rattle.lb_grammar.specs.Machine.{inside, runs, Reads, Nowhere}
 use Rattle.lb_grammar.specs.Booting.{boot_step}
 use Rattle.lb_grammar.specs.Rounding.{round_step}
 use Rattle.lb_grammar.specs.Judging.{NoEnd, after_boot, after_round, judge_step, judged, rounds_of}
-use Rattle.lb_grammar.specs.Rounds.{BeginsWithRounds, HasRounds, Reading, all_whole, round_given_up, boot_given_up, RoundsLaw}
 use Rattle.lb_grammar.proofs.PrefixLemmas.{begins, extends}
 use Rattle.lb_grammar.proofs.EndLemmas.{good_ends}
-use Rattle.lb_grammar.proofs.Same.{Same, Or, Some as ForSome, same, chain, or_same}
-use Rattle.lb_grammar.proofs.Followed.{Followed, AtEnd, to_parts, from_parts, onward, followed_or, alone}
+use Rattle.lb_grammar.proofs.Same.{Same, Or, Some as ForSome, chain}
+use Rattle.lb_grammar.proofs.Followed.{Followed, AtEnd, onward, followed_or, alone}
 use Rattle.lb_grammar.proofs.Reading.{inside_same}
 use Rattle.lb_grammar.proofs.JudgeReads.{Stops, J, Tail, judge_same, any_count}
 use Rattle.lb_grammar.proofs.AliveLemmas.{Example, boot_alive, round_alive}

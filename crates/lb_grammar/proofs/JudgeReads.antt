@@ -2,23 +2,21 @@
 use Rattle.std.proofs.Common.{◌≡◌, ℕ, zero, suc, ◌+◌, ◌≤◌, ◌<◌, Bool, true, IsTrue, ◌⊎◌, inl, inr, List, [], ◌∷◌, ◌++◌, length, refl, sym, ap, ◌∙◌, subst, arith, length-append}
 use Rattle.lb_trace.specs.declared.Event.{Event}
 use Rattle.lb_grammar.specs.declared.progress.Progress.{Progress}
-use Rattle.lb_grammar.specs.declared.progress.Progress.TheVariants.{Within, Done, Off}
+use Rattle.lb_grammar.specs.declared.progress.Progress.TheVariants.{Within}
 use Rattle.lb_grammar.specs.declared.progress.Ending.{Ending}
-use Rattle.lb_grammar.specs.declared.progress.Ending.TheVariants.{Whole, GivenUp}
 use Rattle.lb_grammar.specs.declared.transfer.Transfer.TheVariants.{Opening}
-use Rattle.lb_grammar.specs.declared.boot.Booting.{Booting}
 use Rattle.lb_grammar.specs.declared.boot.Booting.TheVariants.{FirstPin}
 use Rattle.lb_grammar.specs.declared.round.Rounding.{Rounding}
 use Rattle.lb_grammar.specs.declared.round.Rounding.TheVariants.{Info}
 use Rattle.lb_grammar.specs.declared.judging.Judging.{Judging}
 use Rattle.lb_grammar.specs.declared.judging.Judging.TheVariants.{Boot, Between, Round, Still}
-use Rattle.lb_grammar.specs.Forms.{Form, Sequence, Exactly, any_number, Lists, Concat, Is}
-use Rattle.lb_grammar.specs.Grammar.{boot, no_boot, round, no_round, good}
+use Rattle.lb_grammar.specs.Forms.{Exactly, Lists, Concat, Is}
+use Rattle.lb_grammar.specs.Grammar.{boot, no_boot, round, no_round}
 use Rattle.lb_grammar.specs.Machine.{inside, Reads, Nowhere}
 use Rattle.lb_grammar.specs.Booting.{boot_step}
 use Rattle.lb_grammar.specs.Rounding.{round_step}
 use Rattle.lb_grammar.specs.Judging.{NoEnd, after_boot, after_round, judge_step}
-use Rattle.lb_grammar.proofs.Same.{Same, Or, Some as ForSome, same, chain, or_same}
+use Rattle.lb_grammar.proofs.Same.{Same, Or, Some as ForSome, chain, or_same}
 use Rattle.lb_grammar.proofs.Followed.{Followed, AtEnd, to_parts, from_parts, onward, followed_same, no_times, one_time_more, alone}
 use Rattle.lb_grammar.proofs.Reading.{inside_same}
 use Rattle.lb_grammar.proofs.BootReads.{boot_same}

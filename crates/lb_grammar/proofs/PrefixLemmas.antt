@@ -1,5 +1,5 @@
 -- The prefixes of a form by cases are the prefixes of its members.
-use Rattle.std.proofs.Common.{◌≡◌, ℕ, zero, suc, ◌+◌, ◌-◌, ◌<◌, ◌⊎◌, inl, inr, List, [], ◌∷◌, ◌++◌, refl, sym, ap, ◌∙◌, subst, arith, append_assoc, append-nil}
+use Rattle.std.proofs.Common.{◌≡◌, ℕ, zero, suc, ◌+◌, ◌-◌, ◌⊎◌, inl, inr, List, [], ◌∷◌, ◌++◌, refl, sym, ap, ◌∙◌, subst, arith, append_assoc, append-nil}
 use Rattle.lb_trace.specs.declared.Event.{Event}
 use Rattle.lb_grammar.specs.Forms.{Form, Nothing, One, Sequence, Exactly, Any, AnyList, Either, Lists, Concat, Repeated, none, more, Fewer, Is, Begins}
 use Rattle.lb_grammar.specs.Prefixes.{CanEnd, IsBegun, AreItsPrefixes}

@@ -12,7 +12,7 @@ use Rattle.lb_grammar.specs.Judging.{judge_step, judged, rounds_of}
 use Rattle.lb_grammar.specs.Rounds.{BeginsWithRounds, HasRounds, Reading, all_whole, round_given_up, boot_given_up, RoundsLaw}
 use Rattle.lb_grammar.proofs.Same.{Or, Some as ForSome}
 use Rattle.lb_grammar.proofs.Followed.{Followed, AtEnd, to_parts, onward, alone}
-use Rattle.lb_grammar.proofs.JudgeReads.{Stops, J, Tail, judge_same, any_count}
+use Rattle.lb_grammar.proofs.JudgeReads.{J, Tail, judge_same, any_count}
 use Rattle.lb_grammar.proofs.JudgeLemmas.{start, Reached, from_there, whole_list, Came, still_as_many, ended_at, came}
 
 -- ---- just n rounds, and nothing more
@@ -61,7 +61,7 @@ module _ (n : ℕ) where
   from_broken l h =
       (judge_same This This).from l
       (inl (onward boot (λ m g. (n, refl, onward (Exactly n round) (λ k i. inr (onward no_round (λ j e. (e, zero_more)) k i)) m g)) l
-        ((alone (Sequence boot (Sequence (Exactly n round) no_round))).from l h)))
+      ((alone (Sequence boot (Sequence (Exactly n round) no_round))).from l h)))
 
   count_is : (q : Judging) → J This This (Within q) [] → rounds_of q ≡ n
   count_is (Boot at) h = absurd h

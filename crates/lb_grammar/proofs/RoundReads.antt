@@ -1,5 +1,5 @@
 -- The machine of a round reads the rounds, and those that were given up.
-use Rattle.std.proofs.Common.{◌≡◌, ℕ, zero, suc, ◌+◌, ◌<◌, ◌&&◌, ◌==◌, not, nat_lt, Bool, true, false, IsTrue, ◌⊎◌, inl, inr, Option, Some, None, List, [], ◌∷◌, length, refl, sym, ap, ◌∙◌, subst, arith, if◌then◌else◌}
+use Rattle.std.proofs.Common.{◌≡◌, ℕ, zero, suc, ◌&&◌, ◌==◌, not, nat_lt, Bool, true, false, IsTrue, inl, inr, List, [], ◌∷◌, length, refl, sym, ap, subst, arith, if◌then◌else◌}
 use Rattle.std.specs.List.{list_all}
 use Rattle.std.proofs.lemmas.Bool.Decides.{nat_tests}
 use Rattle.lb_trace.specs.declared.Event.{Event}
@@ -17,10 +17,10 @@ use Rattle.lb_grammar.specs.Packet.{command}
 use Rattle.lb_grammar.specs.Grammar.{output_val, rx_data_fifo, rx_status_fifo, rx_fifo_inf, is_word, waiting, word_count, has_words, fits, packet_bytes, is_valid_packet, with_command, read_bytes, rd, no_rd, empty, filled, words, packet, no_words, switch, round, no_round}
 use Rattle.lb_grammar.specs.Machine.{Reads, Nowhere}
 use Rattle.lb_grammar.specs.Transferring.{transfer_step}
-use Rattle.lb_grammar.specs.Rounding.{nothing_seen, see, see_all, looks_valid, command_seen, words_left, after_info, after_status, after_word, round_step}
+use Rattle.lb_grammar.specs.Rounding.{nothing_seen, see, see_all, command_seen, words_left, after_info, after_status, after_word, round_step}
 use Rattle.lb_grammar.proofs.Same.{Same, Or, Some as ForSome, SomeList, same, back, chain, or_same, swap, bracket, some_same, some_or, list_same, or_nothing}
 use Rattle.lb_grammar.proofs.Followed.{Followed, onward, followed_same, followed_or, followed_some, followed_list, list_out, some_out, fewer_than_more, fewer_than_none}
-use Rattle.lb_grammar.proofs.Reading.{equal, equals_itself, store_same, inside_same}
+use Rattle.lb_grammar.proofs.Reading.{equal, store_same, inside_same}
 use Rattle.lb_grammar.proofs.TestLemmas.{both_true, first_true, second_true, not_true, not_false, by_test_same}
 use Rattle.lb_grammar.proofs.TransferReads.{read_same}
 use Rattle.lb_grammar.proofs.HeaderLemmas.{valid_is, command_is, valid_length}
@@ -136,9 +136,9 @@ module _ (next : Ending → Lists) where
         chain (inside_same (transfer_step (read_bytes rx_data_fifo)) round_step (Words s n k) (after_word s n k) Nowhere next (λ q e. refl) (λ q h. h) (Within Opening))
         (chain (read_same (λ x. R (after_word s n k x)) rx_data_fifo)
         (chain (or_same
-          (chain (some_same (λ w t. chain (followed_same (rd rx_data_fifo w) (words_same n (see k w))) (followed_or (rd rx_data_fifo w) (AllWords n (see k w)) (SomeWords n))))
-            (chain (some_or is_word (λ w. Followed (rd rx_data_fifo w) (AllWords n (see k w))) (λ w. Followed (rd rx_data_fifo w) (SomeWords n))) (or_same (one_word n k) same)))
-          same)
+        (chain (some_same (λ w t. chain (followed_same (rd rx_data_fifo w) (words_same n (see k w))) (followed_or (rd rx_data_fifo w) (AllWords n (see k w)) (SomeWords n))))
+        (chain (some_or is_word (λ w. Followed (rd rx_data_fifo w) (AllWords n (see k w))) (λ w. Followed (rd rx_data_fifo w) (SomeWords n))) (or_same (one_word n k) same)))
+        same)
         (chain bracket (or_same same (chain swap (back (fewer_than_more any_word n (Followed (no_rd rx_data_fifo) (next GivenUp)))))))))
 
     -- ---- a packet
@@ -196,9 +196,9 @@ module _ (next : Ending → Lists) where
         chain (followed_same before_words (words_same (word_count s) nothing_seen))
         (chain (followed_or before_words (AllWords (word_count s) nothing_seen) (SomeWords (word_count s)))
         (or_same
-          (chain (followed_list before_words (fits s) (λ ws. Followed (words ws) (After (see_all nothing_seen ws))))
-            (chain (list_same (λ ws t. followed_same (Sequence before_words (words ws)) (after_same ws t))) packets_same))
-          same))
+        (chain (followed_list before_words (fits s) (λ ws. Followed (words ws) (After (see_all nothing_seen ws))))
+        (chain (list_same (λ ws t. followed_same (Sequence before_words (words ws)) (after_same ws t))) packets_same))
+        same))
 
   -- ---- the whole
 
@@ -224,10 +224,10 @@ module _ (next : Ending → Lists) where
       chain (followed_same filled status)
       (chain (followed_or filled (ForSome is_word (λ s. Followed (rd rx_status_fifo s) (R (words_left s (word_count s) nothing_seen)))) NoStatus)
       (or_same
-        (chain (followed_some filled is_word (λ s. Followed (rd rx_status_fifo s) (R (words_left s (word_count s) nothing_seen))))
-          (chain (some_same (λ s t. packet_same s))
-            (chain (some_or is_word (λ s. Or (Dropped s) (Obeyed s)) Cut) (or_same (some_or is_word Dropped Obeyed) same))))
-        same))
+      (chain (followed_some filled is_word (λ s. Followed (rd rx_status_fifo s) (R (words_left s (word_count s) nothing_seen))))
+      (chain (some_same (λ s t. packet_same s))
+      (chain (some_or is_word (λ s. Or (Dropped s) (Obeyed s)) Cut) (or_same (some_or is_word Dropped Obeyed) same))))
+      same))
 
   abbrev Unsorted : Lists
   Unsorted = Or (Or (Followed empty (next Whole)) (Or (Or (Or AnyDropped AnyObeyed) AnyCut) (Followed filled NoStatus))) (Followed (no_rd rx_fifo_inf) (next GivenUp))
@@ -237,8 +237,8 @@ module _ (next : Ending → Lists) where
       chain (inside_same (transfer_step (read_bytes rx_fifo_inf)) round_step Info after_info Nowhere next (λ q e. refl) (λ q h. h) (Within Opening))
       (chain (read_same (λ x. R (after_info x)) rx_fifo_inf)
       (or_same
-        (chain (by_test_same (rd rx_fifo_inf) (λ v. waiting v == 0) (λ b. R (if b then Done Whole else Within (Status Opening)))) (or_same same after_filled))
-        same))
+      (chain (by_test_same (rd rx_fifo_inf) (λ v. waiting v == 0) (λ b. R (if b then Done Whole else Within (Status Opening)))) (or_same same after_filled))
+      same))
 
   -- a packet that was cut off has words
   cut_words : (s : ℕ) (l : List Event) → IsTrue (is_word s) → Cut s l → IsTrue (has_words s)

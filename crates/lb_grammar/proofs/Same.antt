@@ -1,5 +1,5 @@
 -- Kinds of lists with the same members.
-use Rattle.std.proofs.Common.{◌≡◌, ℕ, Bool, true, false, IsTrue, ◌⊎◌, inl, inr, List, if◌then◌else◌}
+use Rattle.std.proofs.Common.{ℕ, Bool, IsTrue, ◌⊎◌, inl, inr, List}
 use Rattle.lb_trace.specs.declared.Event.{Event}
 use Rattle.lb_grammar.specs.Forms.{Lists}
 

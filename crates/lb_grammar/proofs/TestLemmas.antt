@@ -1,5 +1,5 @@
 -- Forms of the numbers that pass a test.
-use Rattle.std.proofs.Common.{◌≡◌, ℕ, ◌&&◌, ◌==◌, not, Bool, true, false, IsTrue, ◌⊎◌, inl, inr, List, refl, sym, ap, ◌∙◌, subst}
+use Rattle.std.proofs.Common.{◌≡◌, ℕ, ◌&&◌, ◌==◌, not, Bool, true, false, IsTrue, inl, inr, List, refl, sym, ap, subst}
 use Rattle.lb_trace.specs.declared.Event.{Event}
 use Rattle.lb_grammar.specs.Forms.{Form, Any, Lists}
 use Rattle.lb_grammar.specs.Grammar.{is_word}

@@ -1,5 +1,5 @@
 -- The machine of a transaction reads the transactions, and those that were given up.
-use Rattle.std.proofs.Common.{◌≡◌, ℕ, zero, suc, ◌+◌, ◌/◌, ◌%◌, ◌^◌, ◌<◌, Bool, true, false, IsTrue, nat_lt, ◌⊎◌, inl, inr, Option, Some, None, List, [], ◌∷◌, ◌++◌, length, take, drop, slice_index, refl, sym, ap, ◌∙◌, subst, arith, if◌then◌else◌}
+use Rattle.std.proofs.Common.{◌≡◌, ℕ, zero, suc, ◌+◌, ◌/◌, ◌%◌, ◌^◌, ◌<◌, Bool, true, false, IsTrue, nat_lt, inl, inr, Option, Some, None, List, [], ◌∷◌, ◌++◌, length, take, drop, slice_index, refl, sym, ap, ◌∙◌, subst, arith, if◌then◌else◌}
 use Rattle.std.proofs.lemmas.Bool.Decides.{nat_tests}
 use Rattle.lb_word.specs.Bytes.{bytes_of_word}
 use Rattle.lb_trace.specs.declared.Event.{Event}
@@ -119,9 +119,9 @@ module _ (next : Option ℕ → Lists) where
   one_byte b bytes v g w h =
       chain
       (or_same
-        (chain (some_same (λ r t. chain (followed_same (xchg b r) (g (pushed w r) (pushed_below w r h (below_256 r t)))) (followed_or (xchg b r) (v (pushed w r)) (Followed (broken_off bytes) GivenUp))))
-          (some_or is_byte (λ r. Followed (xchg b r) (v (pushed w r))) (λ r. Followed (xchg b r) (Followed (broken_off bytes) GivenUp))))
-        same)
+      (chain (some_same (λ r t. chain (followed_same (xchg b r) (g (pushed w r) (pushed_below w r h (below_256 r t)))) (followed_or (xchg b r) (v (pushed w r)) (Followed (broken_off bytes) GivenUp))))
+      (some_or is_byte (λ r. Followed (xchg b r) (v (pushed w r))) (λ r. Followed (xchg b r) (Followed (broken_off bytes) GivenUp))))
+      same)
       (chain bracket (or_same same (back (broken_more b bytes GivenUp))))
 
   -- bytes in front whose answers are free

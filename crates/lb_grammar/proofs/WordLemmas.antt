@@ -1,8 +1,8 @@
 -- A word and the answers that make it.
-use Rattle.std.proofs.Common.{◌≡◌, ℕ, ◌+◌, ◌*◌, ◌/◌, ◌%◌, ◌^◌, ◌<◌, IsTrue, List, [], ◌∷◌, ap, ◌∙◌, arith}
+use Rattle.std.proofs.Common.{◌≡◌, ℕ, ◌+◌, ◌*◌, ◌/◌, ◌%◌, ◌^◌, ◌<◌, IsTrue, [], ◌∷◌, ap, ◌∙◌, arith}
 use Rattle.std.proofs.lemmas.Bool.Decides.{nat_tests}
 use Rattle.lb_word.specs.Bytes.{bytes_of_word, word_of_bytes}
-use Rattle.lb_word.proofs.ByteLemmas.{bytes_of_word-word_of_bytes, word_of_bytes-bytes_of_word, word_of_bytes_below}
+use Rattle.lb_word.proofs.ByteLemmas.{bytes_of_word-word_of_bytes, word_of_bytes-bytes_of_word}
 use Rattle.lb_grammar.specs.Grammar.{is_byte, is_word}
 use Rattle.lb_grammar.specs.Transferring.{pushed}
 

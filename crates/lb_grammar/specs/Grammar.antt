@@ -1,6 +1,6 @@
 -- The grammar of the lamp: what the appliance does at its devices. Each wait ends after 1,000 tries; after a
 -- wait that was in vain the appliance ends the transaction, and then nothing follows.
-use Rattle.std.specs.Prelude.{ℕ, ◌+◌, ◌*◌, ◌/◌, ◌%◌, ◌^◌, nat_lt, nat_le, ◌==◌, ◌&&◌, not, Bool, true, List, [], ◌∷◌, ◌++◌, length, take, slice_index, flat_map, if◌then◌else◌}
+use Rattle.std.specs.Prelude.{ℕ, ◌+◌, ◌*◌, ◌/◌, ◌%◌, ◌^◌, nat_lt, nat_le, ◌==◌, ◌&&◌, not, Bool, List, [], ◌∷◌, ◌++◌, length, take, slice_index, flat_map, if◌then◌else◌}
 use Rattle.std.specs.List.{list_all}
 use Rattle.lb_word.specs.Bytes.{bytes_of_word}
 use Rattle.lb_trace.specs.declared.Event.TheVariants.{Ld, St}

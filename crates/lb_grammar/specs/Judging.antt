@@ -1,5 +1,5 @@
 -- The whole grammar, event by event. Cited by private contracts alone.
-use Rattle.std.specs.Prelude.{ℕ, zero, suc, ◌+◌, List, Option, Some, None}
+use Rattle.std.specs.Prelude.{ℕ, ◌+◌, List, Option, Some, None}
 use Rattle.lb_trace.specs.declared.Event.{Event}
 use Rattle.lb_grammar.specs.declared.progress.Progress.{Progress}
 use Rattle.lb_grammar.specs.declared.progress.Progress.TheVariants.{Within, Off}

@@ -1,5 +1,5 @@
 -- The whole rounds of a trace, and what `judge` says.
-use Rattle.std.specs.Prelude.{◌≡◌, ℕ, zero, suc, ◌≤◌, ◌⊎◌, ◌↔◌, List, take}
+use Rattle.std.specs.Prelude.{◌≡◌, ℕ, zero, suc, ◌≤◌, ◌⊎◌, List, take}
 use Rattle.lb_trace.specs.declared.Event.{Event}
 use Rattle.lb_trace.specs.Prefix.{IsPrefix}
 use Rattle.lb_grammar.specs.declared.Verdict.{Verdict}

@@ -1,18 +1,23 @@
 // Boot: the pins are set, the network chip is found and set up.
 ghost use Rattle.std.specs.Prelude.{◌≡◌};
-ghost use Rattle.lb_grammar.specs.Booting.{after_busy, after_byte_test, after_write, boot_step};
+ghost use Rattle.lb_grammar.specs.Booting.{after_busy, after_byte_test, after_write, boot_step, stored};
 
 use crate::exchange::TRIES;
 use crate::progress::{Ending, Progress};
-use crate::transfer::{Transfer, read_bytes, write_bytes};
+use crate::transfer::Transfer::{self, Opening};
+use crate::transfer::{read_bytes, write_bytes};
 use lb_trace::Event;
 
 const IOF_EN: u32 = 0x1001_2038;
+
 const OUTPUT_EN: u32 = 0x1001_2008;
 
 const BYTE_TEST: u8 = 0x64;
+
 const HW_CFG: u8 = 0x74;
+
 const MAC_CSR_CMD: u8 = 0xA4;
+
 const MAC_CSR_DATA: u8 = 0xA8;
 
 /// Where boot stands. After a read in vain `left` more may be.
@@ -31,26 +36,24 @@ pub enum Booting {
 }
 
 impl Booting {
+    // Before the two waits.
+    const BYTE_TEST: Booting = Booting::ByteTest {
+        left: TRIES,
+        at: Opening,
+    };
+
+    const MAC_BUSY: Booting = Booting::MacBusy {
+        left: TRIES,
+        at: Opening,
+    };
+
     /// Reads an event of boot.
     pub fn after(self, event: Event) -> Progress<Booting, Ending>
         ensures { result ≡ boot_step self event }
     {
         match self {
-            Booting::FirstPin => match event {
-                Event::St { addr, value } if addr == IOF_EN && value == 0x3C => {
-                    Progress::Within(Booting::SecondPin)
-                }
-                _ => Progress::Off,
-            },
-            Booting::SecondPin => match event {
-                Event::St { addr, value } if addr == OUTPUT_EN && value == 0x80_0000 => {
-                    Progress::Within(Booting::ByteTest {
-                        left: TRIES,
-                        at: Transfer::Opening,
-                    })
-                }
-                _ => Progress::Off,
-            },
+            Booting::FirstPin => stored(IOF_EN, 0x3C, Booting::SecondPin, event),
+            Booting::SecondPin => stored(OUTPUT_EN, 0x80_0000, Booting::BYTE_TEST, event),
             Booting::ByteTest { left, at } => match at.after(&read_bytes(BYTE_TEST), event) {
                 Progress::Within(at) => Progress::Within(Booting::ByteTest { left, at }),
                 Progress::Done(word) => after_byte_test(left, word),
@@ -58,17 +61,20 @@ impl Booting {
             },
             Booting::HwCfg { at } => match at.after(&write_bytes(HW_CFG, 0x10_0000), event) {
                 Progress::Within(at) => Progress::Within(Booting::HwCfg { at }),
-                Progress::Done(word) => after_write(Booting::MacData { at: Transfer::Opening }, word),
+                Progress::Done(word) => after_write(Booting::MacData { at: Opening }, word),
                 Progress::Off => Progress::Off,
             },
             Booting::MacData { at } => match at.after(&write_bytes(MAC_CSR_DATA, 0x0C), event) {
                 Progress::Within(at) => Progress::Within(Booting::MacData { at }),
-                Progress::Done(word) => after_write(Booting::MacCmd { at: Transfer::Opening }, word),
+                Progress::Done(word) => after_write(Booting::MacCmd { at: Opening }, word),
                 Progress::Off => Progress::Off,
             },
-            Booting::MacCmd { at } => match at.after(&write_bytes(MAC_CSR_CMD, 0x8000_0001), event) {
+            Booting::MacCmd { at } => match at.after(
+                &write_bytes(MAC_CSR_CMD, 0x8000_0001),
+                event,
+            ) {
                 Progress::Within(at) => Progress::Within(Booting::MacCmd { at }),
-                Progress::Done(word) => after_write(Booting::MacBusy { left: TRIES, at: Transfer::Opening }, word),
+                Progress::Done(word) => after_write(Booting::MAC_BUSY, word),
                 Progress::Off => Progress::Off,
             },
             Booting::MacBusy { left, at } => match at.after(&read_bytes(MAC_CSR_CMD), event) {
@@ -80,13 +86,26 @@ impl Booting {
     }
 }
 
+// A store of this word at this address, which leads on to `next`.
+fn stored(address: u32, word: u32, next: Booting, event: Event) -> Progress<Booting, Ending>
+    ensures { result ≡ stored address word next event }
+{
+    match event {
+        Event::St { addr, value } if addr == address && value == word => Progress::Within(next),
+        _ => Progress::Off,
+    }
+}
+
 // After a read of the byte order's register, in vain or not.
 fn after_byte_test(left: u32, word: Option<u32>) -> Progress<Booting, Ending>
     ensures { result ≡ after_byte_test left word }
 {
     match word {
-        Some(0x8765_4321) => Progress::Within(Booting::HwCfg { at: Transfer::Opening }),
-        Some(_) if left > 0 => Progress::Within(Booting::ByteTest { left: left - 1, at: Transfer::Opening }),
+        Some(0x8765_4321) => Progress::Within(Booting::HwCfg { at: Opening }),
+        Some(_) if left > 0 => Progress::Within(Booting::ByteTest {
+            left: left - 1,
+            at: Opening,
+        }),
         _ => Progress::Done(Ending::GivenUp),
     }
 }
@@ -107,7 +126,10 @@ fn after_busy(left: u32, word: Option<u32>) -> Progress<Booting, Ending>
 {
     match word {
         Some(value) if value < 0x8000_0000 => Progress::Done(Ending::Whole),
-        Some(_) if left > 0 => Progress::Within(Booting::MacBusy { left: left - 1, at: Transfer::Opening }),
+        Some(_) if left > 0 => Progress::Within(Booting::MacBusy {
+            left: left - 1,
+            at: Opening,
+        }),
         _ => Progress::Done(Ending::GivenUp),
     }
 }

@@ -6,6 +6,7 @@ use crate::progress::Progress;
 use lb_trace::Event;
 
 const TXDATA: u32 = 0x1002_4048;
+
 const RXDATA: u32 = 0x1002_404C;
 
 /// How many tries of a wait may be in vain before the last one.
@@ -38,8 +39,7 @@ impl Exchange {
                 }
             }
             (Exchange::Sending, Event::St { addr, value })
-                if addr == TXDATA && value == u32::from(byte) =>
-            {
+                if addr == TXDATA && value == u32::from(byte) => {
                 Progress::Within(Exchange::Answer { left: TRIES })
             }
             (Exchange::Answer { left }, Event::Ld { addr, value }) if addr == RXDATA => {

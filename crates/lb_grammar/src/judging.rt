@@ -23,7 +23,9 @@ pub enum Judging {
 
 impl Judging {
     /// Before all events.
-    pub const START: Judging = Judging::Boot { at: Booting::FirstPin };
+    pub const START: Judging = Judging::Boot {
+        at: Booting::FirstPin,
+    };
 
     /// Reads the next event; `None` where the trace leaves the grammar with it.
     pub fn after(self, event: Event) -> Option<Judging>
@@ -50,7 +52,9 @@ impl Judging {
     {
         match self {
             Judging::Boot { .. } => 0,
-            Judging::Between { rounds } | Judging::Round { rounds, .. } | Judging::Still { rounds } => rounds,
+            Judging::Between { rounds }
+            | Judging::Round { rounds, .. }
+            | Judging::Still { rounds } => rounds,
         }
     }
 }

@@ -16,8 +16,8 @@ mod round;
 mod transfer;
 
 use judging::Judging;
-use lb_trace::Event;
 pub use laws::{prefix_law, rounds_law};
+use lb_trace::Event;
 pub use packet::command_of_packet;
 
 /// What `judge` says of a trace.

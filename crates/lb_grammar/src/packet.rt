@@ -46,7 +46,11 @@ impl Header {
         ensures { result ≡ see self word }
     {
         Header {
-            count: if self.count < 11 { self.count + 1 } else { self.count },
+            count: if self.count < 11 {
+                self.count + 1
+            } else {
+                self.count
+            },
             third: if self.count == 3 { word } else { self.third },
             fifth: if self.count == 5 { word } else { self.fifth },
             tenth: if self.count == 10 { word } else { self.tenth },

@@ -21,7 +21,9 @@ pub enum Transfer {
         at: Exchange,
     },
     /// What is left is the end, with the word of the last four answers, or with `None` after a wait in vain.
-    Closing { result: Option<u32> },
+    Closing {
+        result: Option<u32>,
+    },
 }
 
 impl Transfer {
@@ -46,10 +48,7 @@ impl Transfer {
                 }
             }
             (Transfer::Closing { result }, Event::St { addr, value })
-                if addr == CSMODE && value == 0 =>
-            {
-                Progress::Done(result)
-            }
+                if addr == CSMODE && value == 0 => { Progress::Done(result) }
             _ => Progress::Off,
         }
     }

@@ -1,4 +1,3 @@
-use Rattle.lb_grammar.proofs.Rows.{given_up}
 use Rattle.lb_grammar.proofs.EndLemmas.{prefix_law}
 use Rattle.lb_grammar.proofs.laws.prefix_law.Goals as goal
 
