@@ -12,7 +12,7 @@ abbrev all_bytes : List ℕ → List ℕ
 all_bytes ws = flat_map bytes_of_word ws
 
 abbrev seen : ℕ → ℕ → ℕ → Header
-seen third fifth tenth = record { count = 11; third = third; fifth = fifth; tenth = tenth }
+seen third fifth tenth = record { count = 11; type_word = third; protocol_word = fifth; command_word = tenth }
 
 -- from the eleventh word on nothing changes
 seen_whole : (third fifth tenth : ℕ) (ws : List ℕ) → see_all (seen third fifth tenth) ws ≡ seen third fifth tenth

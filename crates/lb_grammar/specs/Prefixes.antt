@@ -1,9 +1,9 @@
 -- The prefixes by cases are the prefixes of members.
-use Rattle.std.specs.Prelude.{ℕ, ◌<◌, IsTrue, ◌↔◌, List}
+use Rattle.std.specs.Prelude.{ℕ, ◌<◌, Bool, IsTrue, ◌↔◌, List}
 use Rattle.lb_trace.specs.declared.Event.{Event}
 use Rattle.lb_trace.specs.Prefix.{IsPrefix}
 use Rattle.lb_grammar.specs.Forms.{Form, Nothing, One, Sequence, Exactly, Any, AnyList, Either, Is, Begins}
-use Rattle.lb_grammar.specs.Grammar.{xchg, no_xchg, rd, no_rd, wr, no_wr, boot, no_boot, round, no_round, good}
+use Rattle.lb_grammar.specs.Grammar.{xchg, no_xchg, rd, no_rd, wr, no_wr, pins, vain, busy, found, set_up, boot, no_boot, empty, packet, switch, round, no_round, good}
 
 -- the form has a member
 abbrev pub HasMember : Form → Type 0
@@ -38,8 +38,16 @@ pub record PrefixLaw : Type 0 where
   pub no_read : (a : ℕ) → AreItsPrefixes (no_rd a)
   pub write : (a v : ℕ) → AreItsPrefixes (wr a v)
   pub no_write : (a v : ℕ) → AreItsPrefixes (no_wr a v)
+  pub pin_stores : AreItsPrefixes pins
+  pub vain_reads : AreItsPrefixes vain
+  pub busy_reads : AreItsPrefixes busy
+  pub finds : AreItsPrefixes found
+  pub set_ups : AreItsPrefixes set_up
   pub boots : AreItsPrefixes boot
   pub no_boots : AreItsPrefixes no_boot
+  pub empty_polls : AreItsPrefixes empty
+  pub packets : (s : ℕ) (ws : List ℕ) → AreItsPrefixes (packet s ws)
+  pub switches : (c : Bool) → AreItsPrefixes (switch c)
   pub rounds : AreItsPrefixes round
   pub no_rounds : AreItsPrefixes no_round
   pub whole : AreItsPrefixes good

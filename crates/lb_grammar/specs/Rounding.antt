@@ -17,15 +17,15 @@ use Rattle.lb_grammar.specs.Transferring.{transfer_step}
 -- ---- the words that are looked at
 
 abbrev pub nothing_seen : Header
-nothing_seen = record { count = 0; third = 0; fifth = 0; tenth = 0 }
+nothing_seen = record { count = 0; type_word = 0; protocol_word = 0; command_word = 0 }
 
 -- with the next word of the packet
 abbrev pub see : Header → ℕ → Header
 see k w = record {
   count = if nat_lt k.count 11 then k.count + 1 else k.count;
-  third = if k.count == 3 then w else k.third;
-  fifth = if k.count == 5 then w else k.fifth;
-  tenth = if k.count == 10 then w else k.tenth;
+  type_word = if k.count == 3 then w else k.type_word;
+  protocol_word = if k.count == 5 then w else k.protocol_word;
+  command_word = if k.count == 10 then w else k.command_word;
 }
 
 abbrev pub see_all : Header → List ℕ → Header
@@ -33,13 +33,13 @@ see_all k [] = k
 see_all k (w ∷ ws) = see_all (see k w) ws
 
 abbrev pub looks_udp : Header → Bool
-looks_udp k = k.third % 256 == 0x08 && k.third / 256 % 256 == 0x00 && k.third / 65536 % 256 == 0x45 && k.fifth / 16777216 % 256 == 0x11
+looks_udp k = k.type_word % 256 == 0x08 && k.type_word / 256 % 256 == 0x00 && k.type_word / 65536 % 256 == 0x45 && k.protocol_word / 16777216 % 256 == 0x11
 
 abbrev pub looks_valid : ℕ → Header → Bool
 looks_valid s k = not (has_error s) && (nat_le 43 (length_of s) && nat_le (length_of s) 1520) && looks_udp k
 
 abbrev pub command_seen : Header → Bool
-command_seen k = k.tenth / 65536 % 256 % 2 == 1
+command_seen k = k.command_word / 65536 % 256 % 2 == 1
 
 -- ---- the steps
 

@@ -30,14 +30,17 @@ fn is_valid(error: bool, bytes: &[u8]) -> bool
         && bytes[23] == 0x11
 }
 
-/// Those of a packet's words that hold a byte which is looked at, by their numbers from 0.
+/// Those of a packet's words that hold a byte which is looked at.
 #[derive(Clone, Copy)]
 pub struct Header {
     /// How many words there were, 11 where there were more.
     pub count: u32,
-    pub third: u32,
-    pub fifth: u32,
-    pub tenth: u32,
+    /// Bytes 12 to 15: the type of the frame, and the beginning of its header.
+    pub type_word: u32,
+    /// Bytes 20 to 23, the last of which is the protocol.
+    pub protocol_word: u32,
+    /// Bytes 40 to 43, the third of which has the command.
+    pub command_word: u32,
 }
 
 impl Header {
@@ -51,9 +54,21 @@ impl Header {
             } else {
                 self.count
             },
-            third: if self.count == 3 { word } else { self.third },
-            fifth: if self.count == 5 { word } else { self.fifth },
-            tenth: if self.count == 10 { word } else { self.tenth },
+            type_word: if self.count == 3 {
+                word
+            } else {
+                self.type_word
+            },
+            protocol_word: if self.count == 5 {
+                word
+            } else {
+                self.protocol_word
+            },
+            command_word: if self.count == 10 {
+                word
+            } else {
+                self.command_word
+            },
         }
     }
 
@@ -69,17 +84,17 @@ impl Header {
     fn is_udp(self) -> bool
         ensures { result ≡ looks_udp self }
     {
-        self.third % 256 == 0x08
-            && self.third / 256 % 256 == 0x00
-            && self.third / 0x1_0000 % 256 == 0x45
-            && self.fifth / 0x100_0000 % 256 == 0x11
+        self.type_word % 256 == 0x08
+            && self.type_word / 256 % 256 == 0x00
+            && self.type_word / 0x1_0000 % 256 == 0x45
+            && self.protocol_word / 0x100_0000 % 256 == 0x11
     }
 
     /// The packet's command.
     pub fn command(self) -> bool
         ensures { result ≡ command_seen self }
     {
-        self.tenth / 0x1_0000 % 256 % 2 == 1
+        self.command_word / 0x1_0000 % 256 % 2 == 1
     }
 }
 

@@ -124,9 +124,9 @@ fn after_status(word: Option<u32>) -> Progress<Rounding, Ending>
         Some(status) => {
             let header = Header {
                 count: 0,
-                third: 0,
-                fifth: 0,
-                tenth: 0,
+                type_word: 0,
+                protocol_word: 0,
+                command_word: 0,
             };
             words_left(status, word_count(status), header)
         }
