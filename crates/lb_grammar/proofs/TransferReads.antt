@@ -194,16 +194,21 @@ module _ (next : Option ℕ → Lists) where
       let hd : d < 256 = below_256 d g4.1 in
       (v, word_test v (four_below w a b c d h ha hb hc hd), subst (λ rs. Followed (answers rs) (Followed close (next (Some v))) l) (sym (four_answers w a b c d h ha hb hc hd)) g4.2)
 
+  got_more : (n w r : ℕ) → r < 256 → {k : Lists} → ((m : List Event) → k m → Got n (pushed w r) m) → (l : List Event) → Followed (xchg 0 r) k l → Got (suc n) w l
+  got_more n w r h f l x = (r, byte_test r h, onward (xchg 0 r) f l x)
+
   got_from : (w : ℕ) → w < 2 ^ 32 → (l : List Event) → Valued l → Got 4 w l
-  got_from w h l g =
-      let v : ℕ = g.0 in
-      let a : ℕ = v % 256 in
-      let b : ℕ = v / 256 % 256 in
-      let c : ℕ = v / 65536 % 256 in
-      let d : ℕ = v / 16777216 % 256 in
-      let last : Followed (answers (bytes_of_word v)) (Got 0 (pushed (pushed (pushed (pushed w a) b) c) d)) l =
-      subst (λ q. Followed (answers (bytes_of_word v)) (Followed close (next (Some q))) l) (sym (word_again w v h (below_word v g.1))) g.2 in
-      (a, byte_test a (omega arith), onward (xchg 0 a) (λ m s. (b, byte_test b (omega arith), onward (xchg 0 b) (λ m s. (c, byte_test c (omega arith), onward (xchg 0 c) (λ m s. (d, byte_test d (omega arith), s)) m s)) m s)) l last)
+  got_from w h l g = by_bytes (g.0 % 256) (g.0 / 256 % 256) (g.0 / 65536 % 256) (g.0 / 16777216 % 256) (omega arith) (omega arith) (omega arith) (omega arith) last
+    where
+      last : Followed (answers (bytes_of_word g.0)) (Got 0 (pushed (pushed (pushed (pushed w (g.0 % 256)) (g.0 / 256 % 256)) (g.0 / 65536 % 256)) (g.0 / 16777216 % 256))) l
+      last = subst (λ q. Followed (answers (bytes_of_word g.0)) (Followed close (next (Some q))) l) (sym (word_again w g.0 h (below_word g.0 g.1))) g.2
+
+      by_bytes : (a b c d : ℕ) → a < 256 → b < 256 → c < 256 → d < 256 → Followed (answers (a ∷ b ∷ c ∷ d ∷ [])) (Got 0 (pushed (pushed (pushed (pushed w a) b) c) d)) l → Got 4 w l
+      by_bytes a b c d ha hb hc hd x =
+          let w1 : ℕ = pushed w a in
+          let w2 : ℕ = pushed w1 b in
+          let w3 : ℕ = pushed w2 c in
+          got_more 3 w a ha (got_more 2 w1 b hb (got_more 1 w2 c hc (got_more 0 w3 d hd (λ m y. y)))) l x
 
   valued : (w : ℕ) → w < 2 ^ 32 → Same (Sends (0 ∷ 0 ∷ 0 ∷ 0 ∷ []) w) (Ends (0 ∷ 0 ∷ 0 ∷ 0 ∷ []) Valued)
   valued w h = chain (got4 w h) (or_same (record { to = got_to w h; from = got_from w h }) same)

@@ -26,13 +26,13 @@ pub enum Booting {
     FirstPin,
     SecondPin,
     /// The chip's register of the byte order is read until it is awake.
-    ByteTest { left: u32, at: Transfer },
+    ByteTest { left: u16, at: Transfer },
     /// Three registers are written.
     HwCfg { at: Transfer },
     MacData { at: Transfer },
     MacCmd { at: Transfer },
     /// The register of the last command is read until the command is done.
-    MacBusy { left: u32, at: Transfer },
+    MacBusy { left: u16, at: Transfer },
 }
 
 impl Booting {
@@ -97,7 +97,7 @@ fn stored(address: u32, word: u32, next: Booting, event: Event) -> Progress<Boot
 }
 
 // After a read of the byte order's register, in vain or not.
-fn after_byte_test(left: u32, word: Option<u32>) -> Progress<Booting, Ending>
+fn after_byte_test(left: u16, word: Option<u32>) -> Progress<Booting, Ending>
     ensures { result ≡ after_byte_test left word }
 {
     match word {
@@ -121,7 +121,7 @@ fn after_write(next: Booting, word: Option<u32>) -> Progress<Booting, Ending>
 }
 
 // After a read of the register that tells whether the command is done.
-fn after_busy(left: u32, word: Option<u32>) -> Progress<Booting, Ending>
+fn after_busy(left: u16, word: Option<u32>) -> Progress<Booting, Ending>
     ensures { result ≡ after_busy left word }
 {
     match word {

@@ -10,17 +10,17 @@ const TXDATA: u32 = 0x1002_4048;
 const RXDATA: u32 = 0x1002_404C;
 
 /// How many tries of a wait may be in vain before the last one.
-pub const TRIES: u32 = 999;
+pub const TRIES: u16 = 999;
 
 /// Where an exchange stands. After a load in vain `left` more may be.
 #[derive(Clone, Copy)]
 pub enum Exchange {
     /// It waits for room.
-    Room { left: u32 },
+    Room { left: u16 },
     /// There is room, and the byte comes next.
     Sending,
     /// It waits for the answer.
-    Answer { left: u32 },
+    Answer { left: u16 },
 }
 
 impl Exchange {

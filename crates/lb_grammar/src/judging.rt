@@ -1,9 +1,9 @@
 // The whole grammar: boot, and then rounds.
 ghost use Rattle.std.specs.Prelude.{◌≡◌, ◌+◌, ◌^◌, ◌<◌, ◌≤◌, IfSome};
-ghost use Rattle.lb_grammar.specs.declared.judging.Judging.TheVariants.{Round};
+ghost use Rattle.lb_grammar.specs.declared.judging.Judging.TheVariants.{Boot};
 ghost use Rattle.lb_grammar.specs.Machine.{inside};
-ghost use Rattle.lb_grammar.specs.Rounding.{round_step};
-ghost use Rattle.lb_grammar.specs.Judging.{after_round, judge_step, progress_of, rounds_of};
+ghost use Rattle.lb_grammar.specs.Booting.{boot_step};
+ghost use Rattle.lb_grammar.specs.Judging.{after_boot, judge_step, progress_of, rounds_of};
 
 use crate::boot::Booting;
 use crate::progress::{Ending, Progress};
@@ -33,16 +33,18 @@ impl Judging {
         ensures step { progress_of result ≡ judge_step self event }
         ensures few { IfSome result (λ s. rounds_of s ≤ rounds_of self + 1) }
     {
-        match self {
-            Judging::Boot { at } => match at.after(event) {
-                Progress::Within(at) => Some(Judging::Boot { at }),
-                Progress::Done(Ending::Whole) => Some(Judging::Between { rounds: 0 }),
-                Progress::Done(Ending::GivenUp) => Some(Judging::Still { rounds: 0 }),
-                Progress::Off => None,
-            },
-            Judging::Between { rounds } => round_after(rounds, Rounding::START, event),
-            Judging::Round { rounds, at } => round_after(rounds, at, event),
-            Judging::Still { .. } => None,
+        // one call alone, which is compiled in place
+        let (rounds, at) = match self {
+            Judging::Boot { at } => return boot_after(at, event),
+            Judging::Between { rounds } => (rounds, Rounding::START),
+            Judging::Round { rounds, at } => (rounds, at),
+            Judging::Still { .. } => return None,
+        };
+        match at.after(event) {
+            Progress::Within(at) => Some(Judging::Round { rounds, at }),
+            Progress::Done(Ending::Whole) => Some(Judging::Between { rounds: rounds + 1 }),
+            Progress::Done(Ending::GivenUp) => Some(Judging::Still { rounds }),
+            Progress::Off => None,
         }
     }
 
@@ -59,16 +61,15 @@ impl Judging {
     }
 }
 
-// Reads the next event after so many rounds, in a round.
-fn round_after(rounds: u64, at: Rounding, event: Event) -> Option<Judging>
-    requires few { rounds + 1 < 2 ^ 64 }
-    ensures step { progress_of result ≡ inside (Round rounds) (after_round rounds) (round_step at event) }
-    ensures few { IfSome result (λ s. rounds_of s ≤ rounds + 1) }
+// Reads the next event of boot.
+fn boot_after(at: Booting, event: Event) -> Option<Judging>
+    ensures step { progress_of result ≡ inside Boot after_boot (boot_step at event) }
+    ensures zero { IfSome result (λ s. rounds_of s ≡ 0) }
 {
     match at.after(event) {
-        Progress::Within(at) => Some(Judging::Round { rounds, at }),
-        Progress::Done(Ending::Whole) => Some(Judging::Between { rounds: rounds + 1 }),
-        Progress::Done(Ending::GivenUp) => Some(Judging::Still { rounds }),
+        Progress::Within(at) => Some(Judging::Boot { at }),
+        Progress::Done(Ending::Whole) => Some(Judging::Between { rounds: 0 }),
+        Progress::Done(Ending::GivenUp) => Some(Judging::Still { rounds: 0 }),
         Progress::Off => None,
     }
 }

@@ -34,7 +34,7 @@ fn is_valid(error: bool, bytes: &[u8]) -> bool
 #[derive(Clone, Copy)]
 pub struct Header {
     /// How many words there were, 11 where there were more.
-    pub count: u32,
+    pub count: u8,
     /// Bytes 12 to 15: the type of the frame, and the beginning of its header.
     pub type_word: u32,
     /// Bytes 20 to 23, the last of which is the protocol.
@@ -99,10 +99,10 @@ impl Header {
 }
 
 /// How many words a packet of this status has.
-pub fn word_count(status: u32) -> u32
+pub fn word_count(status: u32) -> u16
     ensures { result ≡ word_count status }
 {
-    (status / 0x1_0000 % 0x4000 + 3) / 4
+    ((status / 0x1_0000 % 0x4000 + 3) / 4) as u16
 }
 
 /// How many packets wait, by the value of the register that tells it.

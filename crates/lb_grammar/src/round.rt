@@ -31,7 +31,7 @@ pub enum Rounding {
     /// A word of it is read, after which `left` more come.
     Words {
         status: u32,
-        left: u32,
+        left: u16,
         header: Header,
         at: Transfer,
     },
@@ -137,7 +137,7 @@ fn after_status(word: Option<u32>) -> Progress<Rounding, Ending>
 // After the read of a word.
 fn after_word(
     status: u32,
-    left: u32,
+    left: u16,
     header: Header,
     word: Option<u32>,
 ) -> Progress<Rounding, Ending>
@@ -150,7 +150,7 @@ fn after_word(
 }
 
 // Where so many words are left.
-fn words_left(status: u32, left: u32, header: Header) -> Progress<Rounding, Ending>
+fn words_left(status: u32, left: u16, header: Header) -> Progress<Rounding, Ending>
     ensures { result ≡ words_left status left header }
 {
     if left > 0 {

@@ -1,5 +1,6 @@
-// A transaction of the serial bus: a read or a write of a register of the network chip.
-ghost use Rattle.std.specs.Prelude.{◌≡◌};
+// A transaction of the serial bus: a read or a write of a register of the network chip. Its state is kept small, since it
+// is copied with each event.
+ghost use Rattle.std.specs.Prelude.{◌≡◌, ◌≤◌, length};
 ghost use Rattle.lb_grammar.specs.Grammar.{read_bytes, write_bytes};
 ghost use Rattle.lb_grammar.specs.Transferring.{next_byte, transfer_step};
 
@@ -15,29 +16,24 @@ pub enum Transfer {
     /// The chip isn't selected yet.
     Opening,
     /// The byte at `place` is exchanged; `word` is that of the last four answers.
-    Sending {
-        place: usize,
-        word: u32,
-        at: Exchange,
-    },
+    Sending { place: u8, word: u32, at: Exchange },
     /// What is left is the end, with the word of the last four answers, or with `None` after a wait in vain.
-    Closing {
-        result: Option<u32>,
-    },
+    Closing { result: Option<u32> },
 }
 
 impl Transfer {
     /// Reads an event of the transaction that sends these bytes. It ends with the last four answers as a word, the
     /// first of them its lowest byte, or with `None` where it is given up.
     pub fn after(self, bytes: &[u8], event: Event) -> Progress<Transfer, Option<u32>>
+        requires few { length bytes.now ≤ 8 }
         ensures { result ≡ transfer_step bytes.now self event }
     {
         match (self, event) {
             (Transfer::Opening, Event::St { addr, value }) if addr == CSMODE && value == 2 => {
                 Progress::Within(next_byte(bytes, 0, 0))
             }
-            (Transfer::Sending { place, word, at }, event) if place < bytes.len() => {
-                match at.after(bytes[place], event) {
+            (Transfer::Sending { place, word, at }, event) if usize::from(place) < bytes.len() => {
+                match at.after(bytes[usize::from(place)], event) {
                     Progress::Within(at) => Progress::Within(Transfer::Sending { place, word, at }),
                     Progress::Done(Some(answer)) => {
                         let word = word / 256 + u32::from(answer) * 0x100_0000;
@@ -55,10 +51,10 @@ impl Transfer {
 }
 
 // The exchange of the byte at this place, or the end where all were sent.
-fn next_byte(bytes: &[u8], place: usize, word: u32) -> Transfer
+fn next_byte(bytes: &[u8], place: u8, word: u32) -> Transfer
     ensures { result ≡ next_byte bytes.now place word }
 {
-    if place < bytes.len() {
+    if usize::from(place) < bytes.len() {
         Transfer::Sending {
             place,
             word,
