@@ -6,5 +6,12 @@ pub mod HeldLemmas
 pub mod WalkLemmas
 pub mod ApartLemmas
 pub mod Keep
+pub mod SourceFollow
+pub mod FlatTerms
+pub mod FlatSites
+pub mod FlatCommands
+pub mod FlatCalls
+pub mod FlatForms
+pub mod FlatCounts
 mod Examples
 mod OrderExamples

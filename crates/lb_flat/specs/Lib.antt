@@ -13,4 +13,6 @@ pub mod Needs
 pub mod Calls
 pub mod Order
 pub mod Liveness
+pub mod SourceCounts
+pub mod Flatten
 pub mod Laws
