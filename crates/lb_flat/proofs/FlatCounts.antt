@@ -73,7 +73,7 @@ terms_add number (e ∷ es) t rest =
       words = omega (arith, h.words, g.words, more_words);
     }
 
-temporaries_length : (t : ℕ) (es : List Term) → length (temporaries t es) ≡ length es
+pub temporaries_length : (t : ℕ) (es : List Term) → length (temporaries t es) ≡ length es
 temporaries_length t [] = refl
 temporaries_length t (e ∷ es) = ap suc (temporaries_length (t + 1) es)
 

@@ -21,7 +21,7 @@ use Rattle.lb_flat.specs.Cells.{Cells, no_cells}
 use Rattle.lb_flat.specs.Code.{Routine}
 use Rattle.lb_flat.specs.Run.{World, Outcome, Goes, Stops, Callable, then_do, calls}
 use Rattle.lb_flat.specs.Whole.{callable, callables, own_slot, to_end, for_ever, whole, start}
-use Rattle.lb_flat.specs.Flatten.{place_in, IsFlatForm, AreFlatForms}
+use Rattle.lb_flat.specs.Flatten.{place_in, AreNamesOf, IsFlatForm, AreFlatForms}
 use Rattle.lb_flat.specs.Laws.{FlattenedKeeps}
 use Rattle.lb_flat.proofs.BooleanLemmas.{or_left, or_right}
 use Rattle.lb_flat.proofs.SourceFollow.{world_of, FollowsSource, both_go, both_stop, owes_nothing}
@@ -74,6 +74,11 @@ one_place (z ∷ zs) x y lx ly e = at (one_place zs x y) (bytes_eq z x) (bytes_e
     at next false true ex ey lx ly e = absurd (omega (arith, e))
     at next false false ex ey lx ly e = next (omega (arith, lx)) (omega (arith, ly)) (omega (arith, e))
 
+-- each name of a function has a number
+pub procedure_below : (f : Procedure) (names : List Text) → AreNamesOf f names → AreNumbered (place_in names) (length names) (procedure_names f)
+procedure_below f names are =
+    weaken (λ y. is_among (procedure_names f) y ≡ true) (λ y. place_in names y < length names) (procedure_names f) (λ y m. among_place names y (are.same y ∙ m)) (among_itself (procedure_names f))
+
 -- ---- arities
 
 -- a number for the first function of this name, else 0
@@ -124,8 +129,7 @@ module _ (p : List Procedure) where
       → IsFlatOf (arities_of p) function x (source_whole.callable f frame) (callable g (own_slot 0) frame)
   form_is f g frame x keeps form params results =
       let names = form.names in
-      let below : AreNumbered (place_in names) (length names) (procedure_names f) =
-      weaken (λ y. is_among (procedure_names f) y ≡ true) (λ y. place_in names y < length names) (procedure_names f) (λ y m. among_place names y (form.are_names.same y ∙ m)) (among_itself (procedure_names f)) in
+      let below = procedure_below f names form.are_names in
       record {
         number = place_in names;
         t = length names;

@@ -13,5 +13,7 @@ pub mod FlatCommands
 pub mod FlatCalls
 pub mod FlatForms
 pub mod FlatCounts
+pub mod FlatNames
+pub mod FlatOrder
 mod Examples
 mod OrderExamples

@@ -1,7 +1,8 @@
 -- The laws of places and of flat forms.
-use Rattle.std.specs.Prelude.{◌≡◌, ◌↔◌, ℕ, ◌+◌, ◌*◌, ◌≤◌, List, [], ◌∷◌, length}
+use Rattle.std.specs.Prelude.{◌≡◌, ◌↔◌, ℕ, ◌+◌, ◌*◌, ◌≤◌, List, [], ◌∷◌, length, All}
 use Rattle.lb_syntax.specs.Tree.{Procedure}
 use Rattle.lb_syntax.specs.Needs as source
+use Rattle.lb_syntax.specs.WellFormed.{IsProcedure}
 use Rattle.lb_syntax.specs.Rules.{KeepsRules}
 use Rattle.lb_syntax.specs.declared.layout.Layout.{Layout}
 use Rattle.lb_source.specs.Defined.{IsDefined}
@@ -13,6 +14,7 @@ use Rattle.lb_flat.specs.Needs.{frame_need, flat_routine_words}
 use Rattle.lb_flat.specs.SourceCounts.{source_loads, source_stores, source_accesses, source_arguments, source_targets, greatest_arguments}
 use Rattle.lb_flat.specs.Whole.{flat_run, located_run}
 use Rattle.lb_flat.specs.Accepted.{KeepsApart, AreAllAccepted}
+use Rattle.lb_flat.specs.Order.{IsFlatInOrder}
 use Rattle.lb_flat.specs.Flatten.{IsFlattened}
 use Rattle.lb_flat.specs.Liveness.{IsApartIn}
 
@@ -58,3 +60,7 @@ AllAskNoMore _ _ = ⊥
 -- the flat form of a program that keeps the rules asks for no more than the program, function by function
 abbrev pub FlattenedAsksNoMore : Type 0
 FlattenedAsksNoMore = (p : List Procedure) (q : Executable ℕ) → KeepsRules p → IsFlattened p q → AllAskNoMore p q.routines
+
+-- and is in order, if its literals are words, as those of every tree are
+abbrev pub FlattenedInOrder : Type 0
+FlattenedInOrder = (p : List Procedure) (q : Executable ℕ) → All IsProcedure p → KeepsRules p → IsFlattened p q → IsFlatInOrder q

@@ -1,5 +1,5 @@
 // Laws of registers, flat forms and places: no function here computes anything.
-ghost use Rattle.lb_flat.specs.Laws.{AcceptedPlacesKeep, FlattenedAsksNoMore, FlattenedKeeps, LivenessIsByWalks};
+ghost use Rattle.lb_flat.specs.Laws.{AcceptedPlacesKeep, FlattenedAsksNoMore, FlattenedInOrder, FlattenedKeeps, LivenessIsByWalks};
 ghost use Rattle.lb_flat.specs.Registers.{RegistersAre};
 
 /// Variables are kept in the registers 18 to 29, and placed code names 30 and 31 besides.
@@ -15,6 +15,11 @@ pub fn flattened_keeps()
 /// The flat form of a program that keeps the rules asks for no more than the program.
 pub fn flattened_asks_no_more()
     ensures { FlattenedAsksNoMore }
+{}
+
+/// The flat form of a program that keeps the rules, whose literals are words, is in order.
+pub fn flattened_in_order()
+    ensures { FlattenedInOrder }
 {}
 
 /// With accepted places a flat program that does nothing undefined has the same trace and end.
