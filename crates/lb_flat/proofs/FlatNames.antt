@@ -2,16 +2,16 @@
 use Rattle.std.proofs.Common.{◌≡◌, ℕ, ◌+◌, ◌<◌, ◌≤◌, ◌⊎◌, inl, inr, List, [], ◌∷◌, ◌++◌, map, length, refl, sym, ap, ◌∙◌, subst, arith, append_assoc, append-nil, All, slice_get}
 use Rattle.std.specs.List.{AllByRecursion}
 use Rattle.std.proofs.lemmas.List.{length-map}
-use Rattle.std.proofs.lemmas.List.Elements.{All-from_recursion, All-nil, All-head, All-tail}
+use Rattle.std.proofs.lemmas.List.Elements.{All-from_recursion, All-nil}
 use Rattle.lb_syntax.specs.Names.{Text}
 use Rattle.lb_syntax.specs.Tree.{Term, Number, Variable, Loaded, Operation}
 use Rattle.lb_syntax.specs.Tree.{Command, Skips, Sets, Unsets, Stores, Allocates, Chooses, Repeats, Calls, Interacts, Ends, Then}
-use Rattle.lb_syntax.specs.WellFormed.{IsWord, IsTerm, IsCommand, IsBlock}
+use Rattle.lb_syntax.specs.WellFormed.{IsTerm, IsCommand, IsBlock}
 use Rattle.lb_syntax.specs.Needs.{depth, greatest, greatest_depth, term_names, terms_names, command_names}
-use Rattle.lb_syntax.specs.Calls.{CallSite, AccessSite, call_sites, access_sites}
+use Rattle.lb_syntax.specs.Calls.{CallSite, call_sites, access_sites}
 use Rattle.lb_syntax.specs.Rules.{IsGoodAccess, HasShape}
-use Rattle.lb_flat.specs.Code.{Operation as Does, Code, Plain, Branch, Loop, Reserve, Nothing, Sequence, Constant, Copy, Compute, Forget, Load, Store, Call, Access, Routine}
-use Rattle.lb_flat.specs.Order.{Each, EachName, IsVariable, HasParts, HasShapes, Fits}
+use Rattle.lb_flat.specs.Code.{Code, Plain, Branch, Nothing, Sequence, Copy, Compute, Load, Store, Call, Access, Routine}
+use Rattle.lb_flat.specs.Order.{EachName, IsVariable, HasShapes, Fits}
 use Rattle.lb_flat.specs.SourceCounts.{greatest_arguments}
 use Rattle.lb_flat.specs.Flatten.{term_code, terms_code, temporaries, flat_code}
 use Rattle.lb_flat.proofs.FlatTerms.{AreNumbered, all_left, all_right}
@@ -97,18 +97,22 @@ module _ (number function : Text → ℕ) (t d a : ℕ) where
   command_named (Chooses e b f) rest names deep few k =
       let inner = all_right _ (term_names e) (command_names b ++ command_names f) names in
       term_named count number t (omega arith) e t (Sequence (Branch t (flat_code number function t b Nothing) (flat_code number function t f Nothing)) rest)
-      (all_left _ (term_names e) (command_names b ++ command_names f) names) (omega (arith, deep))
-      ((
+      (all_left _ (term_names e) (command_names b ++ command_names f) names) (omega (arith, deep)) (
+        (
           omega (arith, deep, depth_positive e),
           command_named b Nothing (all_left _ (command_names b) (command_names f) inner) (omega (arith, deep)) (omega (arith, few)) tt,
           command_named f Nothing (all_right _ (command_names b) (command_names f) inner) (omega (arith, deep)) (omega (arith, few)) tt,
-        ), k)
-  command_named (Repeats e b) rest names deep few k =
-      ((
-          term_named count number t (omega arith) e t Nothing (all_left _ (term_names e) (command_names b) names) (omega (arith, deep)) tt,
-          omega (arith, deep, depth_positive e),
-          command_named b Nothing (all_right _ (term_names e) (command_names b) names) (omega (arith, deep)) (omega (arith, few)) tt,
-        ), k)
+        ),
+        k,
+      )
+  command_named (Repeats e b) rest names deep few k = (
+    (
+      term_named count number t (omega arith) e t Nothing (all_left _ (term_names e) (command_names b) names) (omega (arith, deep)) tt,
+      omega (arith, deep, depth_positive e),
+      command_named b Nothing (all_right _ (term_names e) (command_names b) names) (omega (arith, deep)) (omega (arith, few)) tt,
+    ),
+    k,
+  )
   command_named (Calls xs f es) rest names deep few k =
       terms_named count number t (omega arith) d es t (Sequence (Plain (Call (function f)) (temporaries t es) (map number xs)) rest) (all_right _ xs (terms_names es) names) deep (omega (arith, few))
       (parts_named xs es names few, k)
@@ -187,12 +191,14 @@ module _ (fs : List (Routine ℕ)) (number function : Text → ℕ) (t : ℕ) wh
       term_shaped fs number function p t (term_code number e (t + 1) last) words.0 (term_shaped fs number function e (t + 1) last words.1 ((refl, refl), k))
   command_shaped (Allocates m x b) rest words calls accesses k = ((tt, command_shaped b Nothing words calls accesses tt), k)
   command_shaped (Chooses e b d) rest words calls accesses k =
-      term_shaped fs number function e t (Sequence (Branch t (flat_code number function t b Nothing) (flat_code number function t d Nothing)) rest) words.0
-      ((
+      term_shaped fs number function e t (Sequence (Branch t (flat_code number function t b Nothing) (flat_code number function t d Nothing)) rest) words.0 (
+        (
           tt,
           command_shaped b Nothing words.1 (all_left _ (call_sites b) (call_sites d) calls) (all_left _ (access_sites b) (access_sites d) accesses) tt,
           command_shaped d Nothing words.2 (all_right _ (call_sites b) (call_sites d) calls) (all_right _ (access_sites b) (access_sites d) accesses) tt,
-        ), k)
+        ),
+        k,
+      )
   command_shaped (Repeats e b) rest words calls accesses k =
       ((term_shaped fs number function e t Nothing words.0 tt, tt, command_shaped b Nothing words.1 calls accesses tt), k)
   command_shaped (Calls xs f es) rest words calls accesses k =

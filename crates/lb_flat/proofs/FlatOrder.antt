@@ -1,5 +1,5 @@
 -- The flat form of a program that keeps the rules is in order.
-use Rattle.std.proofs.Common.{◌≡◌, ◌≢◌, ℕ, zero, suc, ◌+◌, ◌*◌, ◌<◌, ◌≤◌, Bool, true, false, List, [], ◌∷◌, ◌++◌, map, length, sum, Option, Some, None, refl, sym, ap, ◌∙◌, subst, arith, slice_get, All, Contains, inl, inr, append-nil}
+use Rattle.std.proofs.Common.{◌≡◌, ℕ, zero, suc, ◌+◌, ◌*◌, ◌<◌, ◌≤◌, Bool, true, false, List, [], ◌∷◌, ◌++◌, map, length, sum, refl, sym, ap, ◌∙◌, subst, arith, slice_get, All, Contains, inl, inr, append-nil}
 use Rattle.std.specs.Prelude.{if◌then◌else◌, codes, get_or}
 use Rattle.std.proofs.lemmas.List.{get_or_default}
 use Rattle.std.specs.List.{AllByRecursion}
@@ -13,15 +13,15 @@ use Rattle.lb_syntax.specs.WellFormed.{IsProcedure}
 use Rattle.lb_syntax.specs.Needs as source
 use Rattle.lb_syntax.specs.Calls as source_calls
 use Rattle.lb_syntax.specs.Calls.{CallSite, call_sites, access_sites}
-use Rattle.lb_syntax.specs.Rules.{IsGoodCall, IsGoodAccess, IsBlockSize, Fits, IsEntry, KeepsFunctionRules, KeepsRules, function_names}
+use Rattle.lb_syntax.specs.Rules.{IsGoodCall, IsGoodAccess, IsBlockSize, Fits, IsEntry, KeepsFunctionRules, function_names}
 use Rattle.lb_syntax.specs.declared.limits.TheConstants.{MOST_FRAME}
-use Rattle.lb_flat.specs.Code.{Nothing, Routine, Executable, sites}
-use Rattle.lb_flat.specs.Needs.{frame_need, flat_routine_words, code_need}
+use Rattle.lb_flat.specs.Code.{Nothing, Routine, sites}
+use Rattle.lb_flat.specs.Needs.{frame_need, flat_routine_words}
 use Rattle.lb_flat.specs.Calls.{callees, callees_of, frame_of, IsCallPath, IsRecursive, path_need}
 use Rattle.lb_flat.specs.Order as order
 use Rattle.lb_flat.specs.Order.{KeepsRoutineRules, KeepsExecutableRules, IsVariable, IsFlatInOrder}
 use Rattle.lb_flat.specs.SourceCounts.{greatest_arguments}
-use Rattle.lb_flat.specs.Flatten.{place_in, flat_procedure, IsFlatForm, AreFlatForms, IsFlattened}
+use Rattle.lb_flat.specs.Flatten.{place_in, flat_procedure, IsFlatForm, AreFlatForms}
 use Rattle.lb_flat.specs.Laws.{AsksNoMore, AllAskNoMore, FlattenedInOrder}
 use Rattle.lb_flat.proofs.FlatTerms.{AreNumbered, all_left, all_right}
 use Rattle.lb_flat.proofs.FlatForms.{by_elements, weaken, same_text, later, none_there, procedure_below}
@@ -132,8 +132,13 @@ words_below [] [] h = omega arith
 words_below [] (g ∷ gs) h = absurd h
 words_below (f ∷ fs) [] h = absurd h
 words_below (f ∷ fs) (g ∷ gs) h =
-    omega (arith, h.0.words, words_below fs gs h.1, sum_by-cons (λ n. n) (flat_routine_words g) (map flat_routine_words gs),
-    sum_by-cons (λ n. n) (source.far_factor f * source.procedure_words f) (map (λ f. source.far_factor f * source.procedure_words f) fs))
+    omega (
+      arith,
+      h.0.words,
+      words_below fs gs h.1,
+      sum_by-cons (λ n. n) (flat_routine_words g) (map flat_routine_words gs),
+      sum_by-cons (λ n. n) (source.far_factor f * source.procedure_words f) (map (λ f. source.far_factor f * source.procedure_words f) fs),
+    )
 
 -- ---- paths of calls
 
@@ -203,8 +208,13 @@ module _ (p : List Procedure) (gs : List (Routine ℕ)) (forms : AreFlatForms (f
   need_below : (path : List ℕ) → path_need gs path ≤ source_calls.path_need (map (at p) path)
   need_below [] = omega arith
   need_below (g ∷ path) =
-      omega (arith, frame_below p gs g asks, need_below path, sum_by-cons (λ n. n) (frame_of (slice_get gs g)) (map (λ k. frame_of (slice_get gs k)) path),
-      sum_by-cons (λ n. n) (source.frame_need (at p g)) (map source.frame_need (map (at p) path)))
+      omega (
+        arith,
+        frame_below p gs g asks,
+        need_below path,
+        sum_by-cons (λ n. n) (frame_of (slice_get gs g)) (map (λ k. frame_of (slice_get gs k)) path),
+        sum_by-cons (λ n. n) (source.frame_need (at p g)) (map source.frame_need (map (at p) path)),
+      )
 
   not_recursive : (g : ℕ) → g < length gs → IsRecursive gs g → ⊥
   not_recursive g lt (path, h) =

@@ -13,6 +13,7 @@ pub mod FlatCommands
 pub mod FlatCalls
 pub mod FlatForms
 pub mod FlatCounts
+pub mod FlatLean
 pub mod FlatNames
 pub mod FlatOrder
 mod Examples

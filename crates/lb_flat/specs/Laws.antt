@@ -10,8 +10,8 @@ use Rattle.lb_source.specs.Source.{src}
 use Rattle.lb_flat.specs.declared.places.Place.{Place}
 use Rattle.lb_flat.specs.Code.{Routine, Executable, sites}
 use Rattle.lb_flat.specs.Counts.{loads, stores, accesses, arguments, targets}
-use Rattle.lb_flat.specs.Needs.{frame_need, flat_routine_words}
-use Rattle.lb_flat.specs.SourceCounts.{source_loads, source_stores, source_accesses, source_arguments, source_targets, greatest_arguments}
+use Rattle.lb_flat.specs.Needs.{frame_need, flat_routine_words, flat_accesses_need}
+use Rattle.lb_flat.specs.SourceCounts.{source_loads, source_stores, source_accesses, source_arguments, source_targets, greatest_arguments, source_accesses_need, IsSmall}
 use Rattle.lb_flat.specs.Whole.{flat_run, located_run}
 use Rattle.lb_flat.specs.Accepted.{KeepsApart, AreAllAccepted}
 use Rattle.lb_flat.specs.Order.{IsFlatInOrder}
@@ -64,3 +64,8 @@ FlattenedAsksNoMore = (p : List Procedure) (q : Executable ℕ) → KeepsRules p
 -- and is in order, if its literals are words, as those of every tree are
 abbrev pub FlattenedInOrder : Type 0
 FlattenedInOrder = (p : List Procedure) (q : Executable ℕ) → All IsProcedure p → KeepsRules p → IsFlattened p q → IsFlatInOrder q
+
+-- and may have no more loads and stores among its words; the flat functions of a small program have at most 8 variables
+pub record FlattenedIsLean : Type 0 where
+  pub accesses : (p : List Procedure) (q : Executable ℕ) → KeepsRules p → IsFlattened p q → flat_accesses_need q.routines ≤ source_accesses_need p
+  pub variables : (p : List Procedure) (q : Executable ℕ) → KeepsRules p → IsFlattened p q → IsSmall p → All (λ g. g.variables ≤ 8) q.routines

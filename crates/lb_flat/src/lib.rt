@@ -10,7 +10,8 @@ mod registers;
 
 pub use flat::{FlatBlock, FlatCmd, FlatFunction, FlatProgram};
 pub use laws::{
-    accepted_places_keep, flattened_asks_no_more, flattened_in_order, flattened_keeps, liveness_is_by_walks, registers_are,
+    accepted_places_keep, flattened_asks_no_more, flattened_in_order, flattened_is_lean,
+    flattened_keeps, liveness_is_by_walks, registers_are,
 };
 pub use placed::{PlacedBlock, PlacedCmd, PlacedFunction, PlacedProgram};
 pub use places::{FunctionPlaces, Place, Places};
