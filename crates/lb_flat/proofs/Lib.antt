@@ -17,4 +17,5 @@ pub mod FlatLean
 pub mod FlatNames
 pub mod FlatOrder
 mod Examples
+mod FlatExamples
 mod OrderExamples
