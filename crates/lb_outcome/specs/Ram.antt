@@ -27,10 +27,12 @@ with_words a (w ∷ ws) ram = with_words (a + 4) ws (with_bytes 4 a w ram)
 abbrev pub boot_ram : List ℕ → (ℕ → ℕ)
 boot_ram code = with_words 0 code (λ x. 0)
 
--- what a load at the address a sets its register to; 0 where it doesn't lie wholly in RAM, where none is done
+-- what a load at the address a sets its register to; 0 where it doesn't lie wholly in RAM, where none is done. It goes by the access alone,
+-- so that it is said of a store's access too
 unfoldable pub loaded : Instr → ℕ → (ℕ → ℕ) → ℕ
 loaded i a ram = if is_in_ram (access i).bytes a then loaded_word (access i) (number_at (access i).bytes a ram) else 0
 
--- RAM after a store of v at the address a; the same where it doesn't lie wholly in RAM, where none is done
+-- RAM after a store of v at the address a; the same where it doesn't lie wholly in RAM, where none is done. It goes by the access alone,
+-- so that it is said of a load's access too
 unfoldable pub stored : Instr → ℕ → ℕ → (ℕ → ℕ) → (ℕ → ℕ)
 stored i a v ram = if is_in_ram (access i).bytes a then with_bytes (access i).bytes a v ram else ram

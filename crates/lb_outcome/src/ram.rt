@@ -33,10 +33,9 @@ impl Model for Ram {
 }
 
 impl Ram {
-    /// RAM at boot: the code's words, at most 32,768, from address 0 on, and 0 behind them. Fails only for want of
-    /// memory.
+    /// RAM at boot: the code's words, which fit in it, from address 0 on, and 0 behind them. Fails only for want of memory.
     pub fn boot(alloc: Global, code: &[u32]) -> Result<Ram, AllocError>
-        requires { length code.now ≤ 32768 }
+        requires { 4 * length code.now ≤ RAM_SIZE }
         ensures { IfOk result (λ ram. cells ram ≡ boot_ram code.now) }
     {
         let bytes = zeros(alloc, RAM_SIZE as usize)?;

@@ -9,8 +9,8 @@ pub enum Outcome {
         rd: u8,
         value: u32,
     },
-    /// A load of `instruction` at a byte address: of a device's word where `mmio` says so, else in RAM. `served` is what
-    /// its register becomes, once the access is done.
+    /// A load of `instruction` at a byte address: of a device's word where `mmio` says so, else in RAM. `served` is the
+    /// value that was loaded, once the access is done.
     Load {
         instruction: Instr,
         address: u32,

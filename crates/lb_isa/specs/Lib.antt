@@ -1,0 +1,5 @@
+pub mod Laws
+pub mod Moves
+pub mod Runs
+pub mod State
+pub mod Steps

@@ -1,0 +1,224 @@
+// One instruction at a time.
+ghost use Rattle.std.specs.Prelude.{◌≡◌, ◌<◌, map, slice_index, IfOk, None, false};
+ghost use Rattle.std.specs.Option.{option_map};
+ghost use Rattle.lb_rv.specs.Decoding.{instruction_of};
+ghost use Rattle.lb_outcome.specs.Cells.{cells};
+ghost use Rattle.lb_outcome.specs.Fetching.{word_at};
+ghost use Rattle.lb_outcome.specs.declared.types.Outcome.TheVariants.{Load, Plain};
+ghost use Rattle.lb_isa.specs.declared.processor.Stepped.TheVariants.{Committed};
+ghost use Rattle.lb_isa.specs.State.{processor_of};
+ghost use Rattle.lb_isa.specs.Moves.{IsRefused, after, answer, goes_on, next_answer, next_processor, upcoming};
+ghost use Rattle.lb_isa.specs.Runs.{IsBootable, booted};
+ghost use Rattle.lb_isa.specs.Steps.{instruction_outcome};
+
+use lb_outcome::{Executed, Outcome, Ram, Registers, halt, outcome};
+use lb_rv::{Cause, Instr, decode, reads, writes};
+use lb_trace::Event;
+use std::alloc::{AllocError, Global};
+use std::marker::Model;
+
+/// What one step did.
+#[derive(Clone, Copy, Debug, PartialEq, Eq)]
+pub enum Stepped {
+    /// The instruction was done, and maybe accessed a device's word.
+    Committed { event: Option<Event> },
+    /// The instruction loads a device's word, and no reply was handed in. Nothing changed.
+    WantsReply,
+    /// The processor halts before the instruction. Nothing changed.
+    Halted { cause: Cause },
+}
+
+/// A processor of RV32IM with its code and its RAM. Fetch reads the code as loaded.
+#[derive(Drop)]
+pub struct Isa {
+    code: Vec<u32>,
+    /// The instruction of each word.
+    instructions: Vec<Option<Instr>>,
+    pc: u32,
+    registers: Registers,
+    ram: Ram,
+}
+
+impl Model for Isa {
+    ghost use Rattle.std.specs.Prelude.{◌≡◌, ◌≤◌, length, map};
+    ghost use Rattle.lb_rv.specs.Decoding.{instruction_of};
+    ghost use Rattle.lb_isa.specs.State.{IsaContent, most_words};
+
+    ghost Value = { IsaContent };
+
+    ghost view = { λ m. record { code = m.code.items; pc = m.pc; registers = m.registers; ram = m.ram } };
+
+    ghost invariant = { λ m. (length m.code.items ≤ most_words) × (m.instructions.items ≡ map instruction_of m.code.items) };
+}
+
+impl Isa {
+    /// A processor at `entry`, a byte address, with the code's words in RAM from address 0 on; all else is 0. The code has 1
+    /// to 32,768 words, and the entry is a multiple of 4 below its end. Fails only for want of memory.
+    pub fn boot(alloc: Global, code: &[u32], entry: u32) -> Result<Isa, AllocError>
+        requires { IsBootable code.now entry }
+        ensures code { IfOk result (λ m. m.code ≡ code.now) }
+        ensures processor { IfOk result (λ m. processor_of m ≡ booted code.now entry) }
+    {
+        let ram = Ram::boot(alloc, code)?;
+        let instructions = decoded(alloc, code)?;
+        Ok(Isa {
+            code: Vec::from_slice(alloc, code)?,
+            instructions,
+            pc: entry,
+            registers: Registers::boot(),
+            ram,
+        })
+    }
+
+    /// Does the next instruction. A load of a device's word takes the reply; any other instruction leaves it. Answers
+    /// WantsReply exactly where the next instruction loads a device's word and no reply is handed in, and Halted exactly
+    /// where a cause holds before it.
+    pub fn step(&mut self, reply: Option<u32>) -> Stepped
+        ensures answer { result ≡ next_answer self.old.code reply (processor_of self.old) }
+        ensures processor { processor_of self.new ≡ next_processor self.old.code reply (processor_of self.old) }
+        ensures code { self.new.code ≡ self.old.code }
+        // After WantsReply or Halted nothing has changed.
+        ensures refused { IsRefused result → self.new ≡ self.old }
+    {
+        let Executed { outcome, next } = self.upcoming();
+        self.commit(outcome, next, reply)
+    }
+
+    /// What a register holds; `n` is below 32.
+    pub fn register(&self, n: u8) -> u32
+        requires { n < 32 }
+        ensures { result ≡ slice_index self.now.registers n }
+    {
+        self.registers.get(n)
+    }
+
+    /// The byte address of the next instruction.
+    pub fn pc(&self) -> u32
+        ensures { result ≡ self.now.pc }
+    {
+        self.pc
+    }
+
+    // The outcome of the next instruction.
+    fn upcoming(&self) -> Executed
+        ensures { result ≡ upcoming self.now.code (processor_of self.now) }
+    {
+        match self.fetched() {
+            None => halt(Cause::BadPc, self.pc),
+            Some(None) => halt(Cause::UnknownWord, self.pc),
+            Some(Some(i)) => self.outcome_of(i),
+        }
+    }
+
+    // The instruction at the pc: none where no word stands there, and within where the word has no instruction.
+    fn fetched(&self) -> Option<Option<Instr>>
+        ensures { result ≡ option_map instruction_of (word_at self.now.code self.now.pc) }
+    {
+        if self.pc % 4 != 0 {
+            return None;
+        }
+        self.instructions.get((self.pc / 4) as usize).copied()
+    }
+
+    // The outcome of an instruction at the pc.
+    fn outcome_of(&self, i: Instr) -> Executed
+        ensures { result ≡ instruction_outcome self.now.code (processor_of self.now) i }
+    {
+        let (rs1, rs2) = reads(&i);
+        let code_bytes = 4 * self.code.len() as u32;
+        outcome(
+            i,
+            self.pc,
+            self.registers.get(rs1),
+            self.registers.get(rs2),
+            code_bytes,
+        )
+    }
+
+    // Does what the outcome says.
+    fn commit(&mut self, outcome: Outcome, next: u32, reply: Option<u32>) -> Stepped
+        ensures answer { result ≡ answer outcome reply }
+        ensures processor { processor_of self.new ≡ after outcome next reply (processor_of self.old) }
+        ensures code { self.new.code ≡ self.old.code }
+        ensures refused { IsRefused result → self.new ≡ self.old }
+    {
+        match outcome {
+            Outcome::Plain { rd, value } => self.set(rd, value, next, None),
+            Outcome::Load {
+                instruction,
+                address,
+                mmio: false,
+                ..
+            } => self.load(instruction, address, next),
+            Outcome::Load {
+                instruction,
+                address,
+                ..
+            } => match reply {
+                None => Stepped::WantsReply,
+                Some(value) => {
+                    let event = Event::Ld {
+                        addr: address,
+                        value,
+                    };
+                    self.set(writes(&instruction), value, next, Some(event))
+                }
+            },
+            Outcome::Store {
+                instruction,
+                address,
+                value,
+                mmio: false,
+                ..
+            } => {
+                self.ram.store(instruction, address, value);
+                self.go_to(next, None)
+            }
+            Outcome::Store { address, value, .. } => {
+                let event = Event::St {
+                    addr: address,
+                    value,
+                };
+                self.go_to(next, Some(event))
+            }
+            Outcome::Halt { cause } => Stepped::Halted { cause },
+        }
+    }
+
+    // Loads from RAM, and goes on at this address.
+    fn load(&mut self, i: Instr, address: u32, next: u32) -> Stepped
+        ensures answer { result ≡ Committed None }
+        ensures processor { processor_of self.new ≡ after (Load i address false None) next None (processor_of self.old) }
+        ensures code { self.new.code ≡ self.old.code }
+    {
+        let value = self.ram.load(i, address);
+        self.set(writes(&i), value, next, None)
+    }
+
+    // Sets a register, and goes on at this address.
+    fn set(&mut self, rd: u8, value: u32, next: u32, event: Option<Event>) -> Stepped
+        ensures answer { result ≡ Committed event }
+        ensures processor { processor_of self.new ≡ after (Plain rd value) next None (processor_of self.old) }
+        ensures code { self.new.code ≡ self.old.code }
+    {
+        self.registers.set(rd, value);
+        self.go_to(next, event)
+    }
+
+    // Goes on at this address.
+    fn go_to(&mut self, next: u32, event: Option<Event>) -> Stepped
+        ensures answer { result ≡ Committed event }
+        ensures processor { processor_of self.new ≡ goes_on next (cells self.old.registers) (cells self.old.ram) }
+        ensures code { self.new.code ≡ self.old.code }
+    {
+        self.pc = next;
+        Stepped::Committed { event }
+    }
+}
+
+// The instruction of each word. Fails only for want of memory.
+fn decoded(alloc: Global, code: &[u32]) -> Result<Vec<Option<Instr>>, AllocError>
+    ensures { IfOk result (λ instructions. instructions.items ≡ map instruction_of code.now) }
+{
+    code.iter().map(|word| decode(*word)).collect(alloc)
+}
