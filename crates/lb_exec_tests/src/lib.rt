@@ -1,0 +1,5 @@
+//! Outcomes of decoded items. It has tests alone.
+#![tactic(auto)]
+
+#[cfg(test)]
+mod items;

@@ -1,0 +1,5 @@
+//! Fetching and predicting. It has tests alone.
+#![tactic(auto)]
+
+#[cfg(test)]
+mod predictions;
