@@ -1,0 +1,11 @@
+pub mod RangeLemmas
+pub mod WordLemmas
+pub mod LoopLemmas
+pub mod ResultLemmas
+pub mod FieldLemmas
+pub mod RepeatLemmas
+pub mod FrameLemmas
+pub mod HeaderLemmas
+pub mod ImageLemmas
+pub mod AgainLemmas
+pub mod ReadingLemmas

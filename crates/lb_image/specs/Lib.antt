@@ -1,0 +1,5 @@
+pub mod Images
+pub mod Fields
+pub mod Refusal
+pub mod Laws
+pub mod InternalReading
