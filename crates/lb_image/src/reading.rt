@@ -93,7 +93,7 @@ fn read_frames(
     bytes: &[u8],
 ) -> Result<(Items<FrameLayout>, &[u8]), ImageError>
     requires within { length bytes.now ≤ len }
-    requires near { len + most_frame_bytes * count ≤ length bytes.now + 2 ^ 32 }
+    requires near { len + most_frame_bytes * count < length bytes.now + 2 ^ 32 }
     ensures read { Gives (λ x. (x.0, x.1.now)) result (repeat_at (frame_at len) count bytes.now) }
     ensures least { IfOk result (λ x. length x.1.now ≤ length bytes.now) }
     ensures most { IfOk result (λ x. length bytes.now ≤ length x.1.now + most_frame_bytes * count) }
@@ -112,7 +112,7 @@ fn read_frames(
 #[tactic(auto, unfolding(crate::specs::InternalReading::frame_at))]
 fn read_frame(alloc: Global, len: usize, bytes: &[u8]) -> Result<(FrameLayout, &[u8]), ImageError>
     requires within { length bytes.now ≤ len }
-    requires near { len + most_frame_bytes ≤ length bytes.now + 2 ^ 32 }
+    requires near { len + most_frame_bytes < length bytes.now + 2 ^ 32 }
     ensures read { Gives (λ x. (x.0, x.1.now)) result (frame_at len bytes.now) }
     ensures least { IfOk result (λ x. length x.1.now ≤ length bytes.now) }
     ensures most { IfOk result (λ x. length bytes.now ≤ length x.1.now + most_frame_bytes) }
@@ -139,7 +139,7 @@ fn read_fields(
     bytes: &[u8],
 ) -> Result<(Vec<u32>, &[u8]), ImageError>
     requires within { length bytes.now ≤ len }
-    requires near { len + 4 * count ≤ length bytes.now + 2 ^ 32 }
+    requires near { len + 4 * count < length bytes.now + 2 ^ 32 }
     ensures read { Gives (λ x. (x.0.items, x.1.now)) result (repeat_at (field_at len field) count bytes.now) }
     ensures left { IfOk result (λ x. length bytes.now ≡ length x.1.now + 4 * count) }
 {
@@ -156,7 +156,7 @@ fn read_fields(
 // A field, and what is left behind it. The input has `len` bytes.
 fn read_field(len: usize, field: Field, bytes: &[u8]) -> Result<(u32, &[u8]), ImageError>
     requires within { length bytes.now ≤ len }
-    requires near { len + 4 ≤ length bytes.now + 2 ^ 32 }
+    requires near { len + 4 < length bytes.now + 2 ^ 32 }
     ensures read { Gives (λ x. (x.0, x.1.now)) result (field_at len field bytes.now) }
     ensures left { IfOk result (λ x. length bytes.now ≡ length x.1.now + 4) }
     ensures range { IfOk result (λ x. is_in field.range x.0 ≡ true) }
