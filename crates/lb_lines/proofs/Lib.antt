@@ -1,0 +1,12 @@
+pub mod AccessLemmas
+pub mod AnswerLemmas
+pub mod ByteLemmas
+pub mod CutLemmas
+pub mod FrameLemmas
+pub mod LineLemmas
+pub mod LogLemmas
+pub mod OptionLemmas
+pub mod PairLemmas
+pub mod PrintedLemmas
+pub mod SpellingLemmas
+pub mod WordLemmas
