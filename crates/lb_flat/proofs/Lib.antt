@@ -16,6 +16,9 @@ pub mod FlatCounts
 pub mod FlatLean
 pub mod FlatNames
 pub mod FlatOrder
+pub mod EmittedLemmas
+pub mod DistinctNames
+pub mod CountableLemmas
 mod Examples
 mod FlatExamples
 mod OrderExamples

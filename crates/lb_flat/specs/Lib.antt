@@ -15,4 +15,6 @@ pub mod Order
 pub mod Liveness
 pub mod SourceCounts
 pub mod Flatten
+pub mod Flattened
+pub mod InternalFlatten
 pub mod Laws

@@ -2,13 +2,20 @@
 //! variables, and the same commands over registers and slots; what each form means and asks for.
 #![tactic(auto)]
 
+mod arguments;
+mod depth;
+mod distinct;
 mod flat;
+mod flattening;
 mod laws;
+mod names;
 mod placed;
 mod places;
 mod registers;
+mod scope;
 
 pub use flat::{FlatBlock, FlatCmd, FlatFunction, FlatProgram};
+pub use flattening::flatten;
 pub use laws::{
     accepted_places_keep, flattened_asks_no_more, flattened_in_order, flattened_is_lean,
     flattened_keeps, liveness_is_by_walks, registers_are,

@@ -1,0 +1,52 @@
+-- Flat commands as `flatten` writes them. What stands here is cited by contracts of private functions only.
+use Rattle.std.specs.Prelude.{◌≡◌, ℕ, ◌+◌, ◌<◌, ◌^◌, List, [], ◌∷◌, length, map}
+use Rattle.lb_syntax.specs.Names.{Text}
+use Rattle.lb_syntax.specs.Tree.{Term, Command, Procedure}
+use Rattle.lb_syntax.specs.Needs.{depth, greatest, greatest_depth, variables}
+use Rattle.lb_check.specs.Parts.{body_parts}
+use Rattle.lb_flat.specs.declared.flat.FlatCmd.{FlatCmd}
+use Rattle.lb_flat.specs.Code.{Code, Sequence}
+use Rattle.lb_flat.specs.Flat.{flat_command}
+use Rattle.lb_flat.specs.SourceCounts.{greatest_arguments}
+use Rattle.lb_flat.specs.Flatten.{place_in, term_code, terms_code, flat_code}
+
+-- these commands, before the rest
+abbrev pub emitted : List FlatCmd → Code ℕ → Code ℕ
+emitted [] rest = rest
+emitted (c ∷ cs) rest = Sequence (flat_command c) (emitted cs rest)
+
+-- code that was written behind other code, where `code` says what it is before a rest
+abbrev pub Writes : List FlatCmd → List FlatCmd → (Code ℕ → Code ℕ) → Type 0
+Writes old new code = (rest : Code ℕ) → emitted new rest ≡ emitted old (code rest)
+
+-- the names of a program's functions, and those of a function's variables, by whose places both are numbered
+pub record Numbering : Type 0 where
+  pub functions : List Text
+  pub names : List Text
+
+-- the code of an expression, and of several, whose values come into the variables from t on
+abbrev pub code_of_term : Numbering → Term → ℕ → Code ℕ → Code ℕ
+code_of_term s e t rest = term_code (place_in s.names) e t rest
+
+abbrev pub code_of_terms : Numbering → List Term → ℕ → Code ℕ → Code ℕ
+code_of_terms s es t rest = terms_code (place_in s.names) es t rest
+
+-- the code of a command or a block: the variables behind those with names are temporaries
+abbrev pub code_of : Numbering → Command → Code ℕ → Code ℕ
+code_of s c rest = flat_code (place_in s.names) (place_in s.functions) (length s.names) c rest
+
+-- the numbers of the temporaries of an expression from t on are words, and those of several
+abbrev pub HasTermRoom : ℕ → Term → Type 0
+HasTermRoom t e = t + depth e < 2 ^ 32
+
+abbrev pub HasTermsRoom : ℕ → List Term → Type 0
+HasTermsRoom t es = t + length es + greatest (map depth es) < 2 ^ 32
+
+-- those of a command or a block
+abbrev pub HasRoom : ℕ → Command → Type 0
+HasRoom t c = t + greatest_depth c + greatest_arguments c < 2 ^ 32
+
+-- a function that has few enough parts and variables for their counts
+pub record IsCountable (f : Procedure) : Type 0 where
+  pub parts : body_parts f.body < 2 ^ 30
+  pub room : HasRoom (variables f) f.body

@@ -1,0 +1,430 @@
+// The code of a function's expressions and commands.
+ghost use Rattle.std.specs.Prelude.{◌≡◌, ◌<◌, ◌≤◌, ◌+◌, ◌^◌, [], ◌∷◌, map, length, IfOk, OnOk};
+ghost use Rattle.lb_syntax.specs.declared.limits.TheConstants.{MOST_FUNCTIONS};
+ghost use Rattle.lb_syntax.specs.Names.{IsName};
+ghost use Rattle.lb_syntax.specs.Tree.{procedure_of, term_of};
+ghost use Rattle.lb_syntax.specs.Rules.{function_names};
+ghost use Rattle.lb_syntax.specs.WellFormed.{IsWord};
+ghost use Rattle.lb_flat.specs.Code.{Nothing, Sequence};
+ghost use Rattle.lb_flat.specs.Flat.{flat_command, flat_block};
+ghost use Rattle.lb_flat.specs.Flatten.{place_in, temporaries};
+ghost use Rattle.lb_flat.specs.InternalFlatten.{emitted, Writes};
+
+use crate::flat::{FlatBlock, FlatCmd};
+use lb_syntax::{Action, Block, Cmd, Expr, Function, Name, Width};
+use sqlite_items::Items;
+use std::alloc::{AllocError, Global};
+use std::marker::Model;
+
+/// What the code of a function is written by: the functions of the program, and the names of the function's
+/// variables, each once. Both are numbered by their places.
+#[derive(Drop)]
+pub struct Scope<'a> {
+    alloc: Global,
+    functions: &'a [Function],
+    names: Vec<Name>,
+}
+
+impl<'a> Model for Scope<'a> {
+    ghost use Rattle.std.specs.Prelude.{◌<◌, ◌≤◌, ◌^◌, map, length};
+    ghost use Rattle.lb_syntax.specs.declared.limits.TheConstants.{MOST_FUNCTIONS};
+    ghost use Rattle.lb_syntax.specs.Tree.{procedure_of};
+    ghost use Rattle.lb_syntax.specs.Rules.{function_names};
+    ghost use Rattle.lb_flat.specs.InternalFlatten.{Numbering};
+
+    ghost Value = { Numbering };
+
+    ghost view = { λ s. record { functions = function_names (map procedure_of s.functions.now); names = s.names.items } };
+
+    ghost invariant = { λ s. (length s.names.items < 2 ^ 32) × (length s.functions.now ≤ MOST_FUNCTIONS) };
+}
+
+impl<'a> Scope<'a> {
+    ghost use Rattle.std.specs.Prelude.{◌≡◌, ◌<◌, ◌≤◌, ◌^◌, map, length, All, IfOk, OnOk};
+    ghost use Rattle.lb_syntax.specs.declared.limits.TheConstants.{MOST_FUNCTIONS};
+    ghost use Rattle.lb_syntax.specs.Names.{IsName};
+    ghost use Rattle.lb_syntax.specs.Tree.{Sets, Stores, Calls, Interacts, procedure_of, term_of, command_of, block_of};
+    ghost use Rattle.lb_syntax.specs.Rules.{function_names};
+    ghost use Rattle.lb_syntax.specs.WellFormed.{IsTerm, IsCommand, IsBlock};
+    ghost use Rattle.lb_flat.specs.Code.{Loop, Nothing, Sequence};
+    ghost use Rattle.lb_flat.specs.Flat.{flat_block};
+    ghost use Rattle.lb_flat.specs.Flatten.{place_in, temporaries};
+    ghost use Rattle.lb_flat.specs.InternalFlatten.{Writes, code_of_term, code_of_terms, code_of, HasTermRoom, HasTermsRoom, HasRoom};
+
+    // A scope of these functions and names.
+    pub fn new(alloc: Global, functions: &'a [Function], names: Vec<Name>) -> Scope<'a>
+        requires names { length names.items < 2 ^ 32 }
+        requires functions { length functions.now ≤ MOST_FUNCTIONS }
+        ensures functions { result.functions ≡ function_names (map procedure_of functions.entry.now) }
+        ensures names { result.names ≡ names.items }
+    {
+        Scope {
+            alloc,
+            functions,
+            names,
+        }
+    }
+
+    // The number of the first variable without a name.
+    pub fn first_temporary(&self) -> u32
+        ensures { result ≡ length self.now.names }
+    {
+        self.names.len() as u32
+    }
+
+    // The number of a variable.
+    fn number(&self, name: &Name) -> u32
+        ensures value { result ≡ place_in self.now.names name.now }
+        ensures is_name { IsName name.now }
+    {
+        place_of_name(self.names.as_slice(), name)
+    }
+
+    // The numbers of several variables.
+    pub fn numbers(&self, names: &[Name]) -> Result<Items<u32>, AllocError>
+        ensures value { IfOk result (λ numbers. numbers ≡ map (place_in self.now.names) names.now) }
+        ensures are_names { OnOk result (All IsName names.now) }
+    {
+        let mut numbers = Items::new(self.alloc);
+        for name in names {
+            numbers.push(self.number(name))?;
+        }
+        Ok(numbers)
+    }
+
+    // Adds the code of an expression, whose value comes into variable t.
+    fn add_term(&self, code: &mut Items<FlatCmd>, e: &Expr, t: u32) -> Result<(), AllocError>
+        requires { HasTermRoom t (term_of e.now) }
+        ensures code { OnOk result (Writes code.old code.new (code_of_term self.now (term_of e.now) t)) }
+        ensures well_formed { OnOk result (IsTerm (term_of e.now)) }
+    {
+        match e {
+            Expr::Literal(value) => add(
+                code,
+                FlatCmd::Literal {
+                    target: t,
+                    value: word(*value),
+                },
+            ),
+            Expr::Var(name) => add(
+                code,
+                FlatCmd::Assign {
+                    target: t,
+                    source: self.number(name),
+                },
+            ),
+            Expr::Load { width, address } => {
+                self.add_term(code, address.get(), t)?;
+                add(
+                    code,
+                    FlatCmd::Load {
+                        width: *width,
+                        target: t,
+                        address: t,
+                    },
+                )
+            }
+            Expr::Binary { op, left, right } => {
+                self.add_term(code, left.get(), t)?;
+                self.add_term(code, right.get(), t + 1)?;
+                add(
+                    code,
+                    FlatCmd::Binary {
+                        op: *op,
+                        target: t,
+                        left: t,
+                        right: t + 1,
+                    },
+                )
+            }
+        }
+    }
+
+    // Adds the code of several expressions, whose values come into the variables from t on.
+    fn add_terms(&self, code: &mut Items<FlatCmd>, es: &[Expr], t: u32) -> Result<(), AllocError>
+        requires { HasTermsRoom t (map term_of es.now) }
+        ensures code { OnOk result (Writes code.old code.new (code_of_terms self.now (map term_of es.now) t)) }
+        ensures well_formed { OnOk result (All IsTerm (map term_of es.now)) }
+    {
+        let mut target = t;
+        for e in es {
+            self.add_term(code, e, target)?;
+            target += 1;
+        }
+        Ok(())
+    }
+
+    // As many variables from t on as there are expressions.
+    fn temporaries(&self, es: &[Expr], t: u32) -> Result<Items<u32>, AllocError>
+        requires { HasTermsRoom t (map term_of es.now) }
+        ensures { IfOk result (λ numbers. numbers ≡ temporaries t (map term_of es.now)) }
+    {
+        let mut numbers = Items::new(self.alloc);
+        let mut target = t;
+        for _e in es {
+            numbers.push(target)?;
+            target += 1;
+        }
+        Ok(numbers)
+    }
+
+    // Adds the code of an assignment.
+    fn add_set(
+        &self,
+        code: &mut Items<FlatCmd>,
+        target: &Name,
+        value: &Expr,
+    ) -> Result<(), AllocError>
+        requires { HasRoom (length self.now.names) (Sets target.now (term_of value.now)) }
+        ensures code { OnOk result (Writes code.old code.new (code_of self.now (Sets target.now (term_of value.now)))) }
+        ensures well_formed { OnOk result (IsCommand (Sets target.now (term_of value.now))) }
+    {
+        let t = self.first_temporary();
+        self.add_term(code, value, t)?;
+        add(
+            code,
+            FlatCmd::Assign {
+                target: self.number(target),
+                source: t,
+            },
+        )
+    }
+
+    // Adds the code of a store.
+    fn add_store(
+        &self,
+        code: &mut Items<FlatCmd>,
+        width: Width,
+        address: &Expr,
+        value: &Expr,
+    ) -> Result<(), AllocError>
+        requires { HasRoom (length self.now.names) (Stores width (term_of address.now) (term_of value.now)) }
+        ensures code { OnOk result (Writes code.old code.new (code_of self.now (Stores width (term_of address.now) (term_of value.now)))) }
+        ensures well_formed { OnOk result (IsCommand (Stores width (term_of address.now) (term_of value.now))) }
+    {
+        let t = self.first_temporary();
+        self.add_term(code, address, t)?;
+        self.add_term(code, value, t + 1)?;
+        add(
+            code,
+            FlatCmd::Store {
+                width,
+                address: t,
+                value: t + 1,
+            },
+        )
+    }
+
+    // Adds the code of a call.
+    fn add_call(
+        &self,
+        code: &mut Items<FlatCmd>,
+        targets: &[Name],
+        function: &Name,
+        arguments: &[Expr],
+    ) -> Result<(), AllocError>
+        requires { HasRoom (length self.now.names) (Calls targets.now function.now (map term_of arguments.now)) }
+        ensures code { OnOk result (Writes code.old code.new (code_of self.now (Calls targets.now function.now (map term_of arguments.now)))) }
+        ensures well_formed { OnOk result (IsCommand (Calls targets.now function.now (map term_of arguments.now))) }
+    {
+        let t = self.first_temporary();
+        self.add_terms(code, arguments, t)?;
+        let targets = self.numbers(targets)?;
+        let arguments = self.temporaries(arguments, t)?;
+        let function = place_of_function(self.functions, function.as_bytes());
+        add(
+            code,
+            FlatCmd::Call {
+                targets,
+                function,
+                arguments,
+            },
+        )
+    }
+
+    // Adds the code of an access.
+    fn add_access(
+        &self,
+        code: &mut Items<FlatCmd>,
+        targets: &[Name],
+        action: Action,
+        arguments: &[Expr],
+    ) -> Result<(), AllocError>
+        requires { HasRoom (length self.now.names) (Interacts targets.now action (map term_of arguments.now)) }
+        ensures code { OnOk result (Writes code.old code.new (code_of self.now (Interacts targets.now action (map term_of arguments.now)))) }
+        ensures well_formed { OnOk result (IsCommand (Interacts targets.now action (map term_of arguments.now))) }
+    {
+        let t = self.first_temporary();
+        self.add_terms(code, arguments, t)?;
+        let targets = self.numbers(targets)?;
+        let arguments = self.temporaries(arguments, t)?;
+        add(
+            code,
+            FlatCmd::Interact {
+                targets,
+                action,
+                arguments,
+            },
+        )
+    }
+
+    // Adds the code of a loop round this body.
+    fn add_loop(
+        &self,
+        code: &mut Items<FlatCmd>,
+        condition: &Expr,
+        body: FlatBlock,
+    ) -> Result<(), AllocError>
+        requires { HasTermRoom (length self.now.names) (term_of condition.now) }
+        ensures code { let head = code_of_term self.now (term_of condition.now) (length self.now.names) Nothing in
+            OnOk result (Writes code.old code.new (Sequence (Loop head (length self.now.names) (flat_block body)))) }
+        ensures well_formed { OnOk result (IsTerm (term_of condition.now)) }
+    {
+        let t = self.first_temporary();
+        let mut before = Items::new(self.alloc);
+        self.add_term(&mut before, condition, t)?;
+        add(
+            code,
+            FlatCmd::While {
+                before: closed(before),
+                condition: t,
+                body,
+            },
+        )
+    }
+
+    // Adds the code of a command.
+    #[cycle(commands)]
+    fn add_command(&self, c: &Cmd, code: &mut Items<FlatCmd>) -> Result<(), AllocError>
+        requires { HasRoom (length self.now.names) (command_of c.now) }
+        ensures code { OnOk result (Writes code.old code.new (code_of self.now (command_of c.now))) }
+        ensures well_formed { OnOk result (IsCommand (command_of c.now)) }
+    {
+        match c {
+            Cmd::Skip => Ok(()),
+            Cmd::Set { target, value } => self.add_set(code, target, value),
+            Cmd::Unset { target } => {
+                let target = self.number(target);
+                add(code, FlatCmd::Unset { target })
+            }
+            Cmd::Store {
+                width,
+                address,
+                value,
+            } => self.add_store(code, *width, address, value),
+            Cmd::StackAlloc {
+                bytes,
+                target,
+                body,
+            } => {
+                let (bytes, target) = (word(*bytes), self.number(target));
+                let body = self.block(body)?;
+                add(
+                    code,
+                    FlatCmd::StackAlloc {
+                        bytes,
+                        target,
+                        body,
+                    },
+                )
+            }
+            Cmd::If { condition, yes, no } => {
+                let t = self.first_temporary();
+                self.add_term(code, condition, t)?;
+                let (yes, no) = (self.block(yes)?, self.block(no)?);
+                add(
+                    code,
+                    FlatCmd::If {
+                        condition: t,
+                        yes,
+                        no,
+                    },
+                )
+            }
+            Cmd::While { condition, body } => {
+                let body = self.block(body)?;
+                self.add_loop(code, condition, body)
+            }
+            Cmd::Call {
+                targets,
+                function,
+                arguments,
+            } => self.add_call(code, targets.as_slice(), function, arguments.as_slice()),
+            Cmd::Interact {
+                targets,
+                action,
+                arguments,
+            } => self.add_access(code, targets.as_slice(), *action, arguments.as_slice()),
+        }
+    }
+
+    // The code of a block.
+    #[cycle(commands)]
+    pub fn block(&self, block: &Block) -> Result<FlatBlock, AllocError>
+        requires { HasRoom (length self.now.names) (block_of block.now) }
+        ensures code { IfOk result (λ made. flat_block made ≡ code_of self.now (block_of block.now) Nothing) }
+        ensures well_formed { OnOk result (IsBlock (block_of block.now)) }
+    {
+        let mut code = Items::new(self.alloc);
+        for c in block.commands.as_slice() {
+            self.add_command(c, &mut code)?;
+        }
+        Ok(closed(code))
+    }
+}
+
+// The place of the first of these names that is this one; their number where none is.
+fn place_of_name(names: &[Name], name: &Name) -> u32
+    requires { length names.now < 2 ^ 32 }
+    ensures value { result ≡ place_in names.now name.now }
+    ensures is_name { IsName name.now }
+{
+    let bytes = name.as_bytes();
+    let mut place = 0;
+    for other in names {
+        if other.as_bytes() == bytes {
+            return place;
+        }
+        place += 1;
+    }
+    place
+}
+
+/// The place of the first of these functions that has the name; their number where none has.
+pub fn place_of_function(functions: &[Function], name: &[u8]) -> u32
+    requires { length functions.now ≤ MOST_FUNCTIONS }
+    ensures { result ≡ place_in (function_names (map procedure_of functions.now)) name.now }
+{
+    let mut place = 0;
+    for f in functions {
+        if f.name.as_bytes() == name {
+            return place;
+        }
+        place += 1;
+    }
+    place
+}
+
+// The number.
+fn word(number: u32) -> u32
+    ensures value { result ≡ number }
+    ensures word { IsWord number }
+{
+    number
+}
+
+// Adds a command.
+#[tactic(auto, using(crate::proofs::EmittedLemmas::emitted_more))]
+fn add(code: &mut Items<FlatCmd>, c: FlatCmd) -> Result<(), AllocError>
+    ensures { OnOk result (Writes code.old code.new (Sequence (flat_command c))) }
+{
+    code.push(c)?;
+    Ok(())
+}
+
+// The commands as a block.
+fn closed(code: Items<FlatCmd>) -> FlatBlock
+    ensures { flat_block result ≡ emitted code Nothing }
+{
+    FlatBlock { commands: code }
+}
