@@ -137,7 +137,8 @@ fn depth_of_arguments(arguments: &[Expr]) -> u64
     deepest
 }
 
-/// The greatest depth of an expression in a block, 0 where there is none.
+/// The greatest depth of an expression in a block, 0 where there is none. The block is one of a program that has been read or
+/// checked, so it has fewer than 2^30 parts.
 #[cycle(depth)]
 pub fn depth_of_block(block: &Block) -> u64
     requires { body_parts (block_of block.now) < 2 ^ 30 }

@@ -125,15 +125,24 @@ fn count_distinct(alloc: Global, names: &[Name]) -> Result<u64, AllocError>
     Ok(count)
 }
 
-/// How many variables a function has, its parameters and results among them.
-pub fn count_variables(alloc: Global, f: &Function) -> Result<u64, AllocError>
-    ensures value { IfOk result (λ count. count ≡ variables (procedure_of f.now)) }
-    ensures few { IfOk result (λ count. count ≤ length (procedure_names (procedure_of f.now))) }
+/// The variables that a function names, its parameters and results among them, as often as it names them. Fails only for want
+/// of memory.
+pub fn variable_names(alloc: Global, f: &Function) -> Result<Vec<Name>, AllocError>
+    ensures { IfOk result (λ names. names.items ≡ procedure_names (procedure_of f.now)) }
 {
     let mut names = Vec::new(alloc);
     add_names(alloc, &mut names, f.params.as_slice())?;
     add_names(alloc, &mut names, f.results.as_slice())?;
     add_block(alloc, &mut names, &f.body)?;
+    Ok(names)
+}
+
+/// How many variables a function has, its parameters and results among them.
+pub fn count_variables(alloc: Global, f: &Function) -> Result<u64, AllocError>
+    ensures value { IfOk result (λ count. count ≡ variables (procedure_of f.now)) }
+    ensures few { IfOk result (λ count. count ≤ length (procedure_names (procedure_of f.now))) }
+{
+    let names = variable_names(alloc, f)?;
     count_distinct(alloc, names.as_slice())
 }
 
