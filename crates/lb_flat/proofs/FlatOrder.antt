@@ -127,7 +127,7 @@ as_many [] (g ∷ gs) h = absurd h
 as_many (f ∷ fs) [] h = absurd h
 as_many (f ∷ fs) (g ∷ gs) h = ap suc (as_many fs gs h.1)
 
-words_below : (fs : List Procedure) (gs : List (Routine ℕ)) → AllAskNoMore fs gs → sum (map flat_routine_words gs) ≤ sum (map (λ f. source.far_factor f * source.procedure_words f) fs)
+pub words_below : (fs : List Procedure) (gs : List (Routine ℕ)) → AllAskNoMore fs gs → sum (map flat_routine_words gs) ≤ sum (map (λ f. source.far_factor f * source.procedure_words f) fs)
 words_below [] [] h = omega arith
 words_below [] (g ∷ gs) h = absurd h
 words_below (f ∷ fs) [] h = absurd h

@@ -17,7 +17,7 @@ pub mod FlatLean
 pub mod FlatNames
 pub mod FlatOrder
 pub mod EmittedLemmas
-pub mod DistinctNames
+pub mod NumberLemmas
 pub mod CountableLemmas
 mod Examples
 mod FlatExamples

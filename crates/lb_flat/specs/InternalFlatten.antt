@@ -1,5 +1,11 @@
 -- Flat commands as `flatten` writes them. What stands here is cited by contracts of private functions only.
-use Rattle.std.specs.Prelude.{◌≡◌, ℕ, ◌+◌, ◌<◌, ◌^◌, List, [], ◌∷◌, length, map}
+use Rattle.std.specs.Prelude.{◌≡◌, ℕ, suc, ◌+◌, ◌<◌, ◌^◌, if◌then◌else◌, List, [], ◌∷◌, length, map, Option, Some, None}
+use Rattle.std.specs.Borrow.{Bor}
+use Rattle.std.specs.BTreeMap.{BTreeMap, get_by}
+use Rattle.std.specs.Cmp.Lexicographic.{slice_cmp}
+use Rattle.std.specs.Option.{option_map}
+use Rattle.std.specs.Ordering.{nat_cmp}
+use Rattle.std.specs.Str.{bytes_eq}
 use Rattle.lb_syntax.specs.Names.{Text}
 use Rattle.lb_syntax.specs.Tree.{Term, Command, Procedure}
 use Rattle.lb_syntax.specs.Needs.{depth, greatest, greatest_depth, variables}
@@ -23,6 +29,19 @@ Writes old new code = (rest : Code ℕ) → emitted new rest ≡ emitted old (co
 pub record Numbering : Type 0 where
   pub functions : List Text
   pub names : List Text
+
+-- the texts of these bytes
+abbrev pub texts_of : List (Bor (List ℕ)) → List Text
+texts_of bytes = map (λ (b : Bor (List ℕ)). b.now) bytes
+
+-- the number of a name: its place, if it is there
+abbrev pub number_in : List Text → Text → Option ℕ
+number_in [] x = None
+number_in (y ∷ ys) x = if bytes_eq y x then Some 0 else option_map suc (number_in ys x)
+
+-- the map has the number of each name, and nothing else
+pub record AreTheirNumbers (numbers : BTreeMap (Bor (List ℕ)) ℕ) (names : List Text) : Type 0 where
+  pub each : (x : Text) → get_by (λ k. slice_cmp nat_cmp x k.now) numbers ≡ number_in names x
 
 -- the code of an expression, and of several, whose values come into the variables from t on
 abbrev pub code_of_term : Numbering → Term → ℕ → Code ℕ → Code ℕ

@@ -3,11 +3,13 @@ ghost use Rattle.std.specs.Prelude.{◌≡◌, ◌<◌, ◌≤◌, ◌^◌, map,
 ghost use Rattle.std.specs.List.{AllByRecursion};
 ghost use Rattle.lb_syntax.specs.declared.limits.TheConstants.{MOST_FUNCTIONS};
 ghost use Rattle.lb_syntax.specs.Names.{IsName};
+ghost use Rattle.lb_syntax.specs.Needs.{procedure_names};
 ghost use Rattle.lb_syntax.specs.Tree.{block_of, procedure_of, program_of};
 ghost use Rattle.lb_syntax.specs.WellFormed.{IsProcedure};
 ghost use Rattle.lb_syntax.specs.Rules.{function_names, KeepsRules};
 ghost use Rattle.lb_flat.specs.Flat.{flat_routine, flat_executable};
-ghost use Rattle.lb_flat.specs.Needs.{flat_accesses_need};
+ghost use Rattle.lb_syntax.specs.Needs as source;
+ghost use Rattle.lb_flat.specs.Needs.{code_need, flat_routine_words, flat_accesses_need};
 ghost use Rattle.lb_flat.specs.SourceCounts.{source_accesses_need, IsSmall};
 ghost use Rattle.lb_flat.specs.Order.{IsFlatInOrder};
 ghost use Rattle.lb_flat.specs.Flatten.{AreNamesOf, IsFlatForm, AreFlatForms, IsFlattened};
@@ -16,12 +18,10 @@ ghost use Rattle.lb_flat.specs.Laws.{AllAskNoMore};
 ghost use Rattle.lb_flat.specs.InternalFlatten.{HasRoom, IsCountable};
 
 use crate::arguments::arguments_of_block;
-use crate::depth::depth_of_block;
-use crate::distinct::distinct_names;
 use crate::flat::{FlatFunction, FlatProgram};
-use crate::names::variable_names;
+use crate::numbers::VariableNumbers;
 use crate::scope::{Scope, place_of_function};
-use lb_check::Checked;
+use lb_check::{Checked, depth_of_block, variable_names};
 use lb_syntax::{Function, Name, Program};
 use sqlite_items::Items;
 use std::alloc::{AllocError, Global};
@@ -29,13 +29,22 @@ use std::alloc::{AllocError, Global};
 /// The flat form of a program. For every layout of the stack, every number of turns and all replies, it has the same trace and
 /// end as the program wherever that does nothing undefined. It is in order, and function by function it asks for no more than the
 /// program: it has as many functions, and each of them has as many parameters, results, stack blocks, loads, stores, accesses,
-/// arguments and targets as the source's, and no more words and bytes of a frame. Fails only for want of memory.
+/// arguments and targets as the source's, and no more words and bytes of a frame. So it asks for no more words in all. Fails only
+/// for want of memory.
 pub fn flatten(alloc: Global, program: &Checked) -> Result<FlatProgram, AllocError>
-    ensures keeps { IfOk result (λ flat. HasSameRuns (program_of program.now) (flat_executable flat)) }
+    ensures keeps { IfOk result (λ flat.
+        HasSameRuns (program_of program.now) (flat_executable flat)) }
     ensures in_order { IfOk result (λ flat. IsFlatInOrder (flat_executable flat)) }
-    ensures asks_no_more { IfOk result (λ flat. AllAskNoMore (program_of program.now) (map flat_routine flat.functions)) }
-    ensures accesses { IfOk result (λ flat. flat_accesses_need (map flat_routine flat.functions) ≤ source_accesses_need (program_of program.now)) }
-    ensures variables { IfOk result (λ flat. IsSmall (program_of program.now) → HasFewVariables (flat_executable flat)) }
+    ensures asks_no_more { IfOk result (λ flat.
+        AllAskNoMore (program_of program.now) (map flat_routine flat.functions)) }
+    ensures words { IfOk result (λ flat.
+        code_need flat_routine_words (map flat_routine flat.functions)
+        ≤ source.code_need (program_of program.now)) }
+    ensures accesses { IfOk result (λ flat.
+        flat_accesses_need (map flat_routine flat.functions)
+        ≤ source_accesses_need (program_of program.now)) }
+    ensures variables { IfOk result (λ flat.
+        IsSmall (program_of program.now) → HasFewVariables (flat_executable flat)) }
 {
     let flat = flatten_program(alloc, program.program())?;
     Ok(flat)
@@ -45,7 +54,8 @@ pub fn flatten(alloc: Global, program: &Checked) -> Result<FlatProgram, AllocErr
 #[tactic(auto, using(crate::proofs::CountableLemmas::countable))]
 fn flatten_program(alloc: Global, program: &Program) -> Result<FlatProgram, AllocError>
     requires { KeepsRules (program_of program.now) }
-    ensures form { IfOk result (λ flat. IsFlattened (program_of program.now) (flat_executable flat)) }
+    ensures form { IfOk result (λ flat.
+        IsFlattened (program_of program.now) (flat_executable flat)) }
     ensures well_formed { OnOk result (All IsProcedure (program_of program.now)) }
 {
     let functions = program.functions.as_slice();
@@ -63,7 +73,9 @@ fn flatten_functions(
 ) -> Result<Items<FlatFunction>, AllocError>
     requires few { length functions.now ≤ MOST_FUNCTIONS }
     requires countable { AllByRecursion IsCountable (map procedure_of functions.now) }
-    ensures forms { IfOk result (λ made. AreFlatForms (function_names (map procedure_of functions.now)) (map procedure_of functions.now) (map flat_routine made)) }
+    ensures forms { IfOk result (λ made.
+        AreFlatForms (function_names (map procedure_of functions.now))
+        (map procedure_of functions.now) (map flat_routine made)) }
     ensures well_formed { OnOk result (AllByRecursion IsProcedure (map procedure_of functions.now)) }
 {
     let mut made = Items::new(alloc);
@@ -81,12 +93,15 @@ fn flatten_function(
 ) -> Result<FlatFunction, AllocError>
     requires few { length functions.now ≤ MOST_FUNCTIONS }
     requires countable { IsCountable (procedure_of f.now) }
-    ensures form { IfOk result (λ made. IsFlatForm (function_names (map procedure_of functions.now)) (procedure_of f.now) (flat_routine made)) }
+    ensures form { IfOk result (λ made.
+        IsFlatForm (function_names (map procedure_of functions.now))
+        (procedure_of f.now) (flat_routine made)) }
     ensures well_formed { OnOk result (IsProcedure (procedure_of f.now)) }
 {
     is_name(&f.name);
-    let names = few_names_of(alloc, f)?;
-    let scope = Scope::new(alloc, functions, names);
+    let names = variable_names(alloc, f)?;
+    let numbers = few_numbers_of(alloc, f, names.as_slice())?;
+    let scope = Scope::new(alloc, functions, numbers);
     let depth = depth_of_block(&f.body) as u32;
     Ok(FlatFunction {
         variables: scope.first_temporary() + depth + arguments_of_block(&f.body),
@@ -96,23 +111,32 @@ fn flatten_function(
     })
 }
 
-// The names of a function's variables, each once, which are few.
-fn few_names_of(alloc: Global, f: &Function) -> Result<Vec<Name>, AllocError>
-    requires { IsCountable (procedure_of f.now) }
-    ensures names { IfOk result (λ names. AreNamesOf (procedure_of f.now) names.items) }
-    ensures few { IfOk result (λ names. length names.items < 2 ^ 32) }
-    ensures room { IfOk result (λ names. HasRoom (length names.items) (block_of f.now.body)) }
+// The numbers of a function's variables, which are few.
+fn few_numbers_of<'a>(
+    alloc: Global,
+    f: &Function,
+    names: &'a [Name],
+) -> Result<VariableNumbers<'a>, AllocError>
+    requires countable { IsCountable (procedure_of f.now) }
+    requires names { names.now ≡ procedure_names (procedure_of f.now) }
+    ensures names { IfOk result (λ numbers. AreNamesOf (procedure_of f.entry.now) numbers) }
+    ensures few { IfOk result (λ numbers. length numbers < 2 ^ 32) }
+    ensures room { IfOk result (λ numbers. HasRoom (length numbers) (block_of f.entry.now.body)) }
 {
-    let names = names_of(alloc, f)?;
-    Ok(names)
+    let numbers = numbers_of(alloc, f, names)?;
+    Ok(numbers)
 }
 
-// The names of a function's variables, each once.
-fn names_of(alloc: Global, f: &Function) -> Result<Vec<Name>, AllocError>
-    ensures { IfOk result (λ names. AreNamesOf (procedure_of f.now) names.items) }
+// The numbers of a function's variables.
+fn numbers_of<'a>(
+    alloc: Global,
+    f: &Function,
+    names: &'a [Name],
+) -> Result<VariableNumbers<'a>, AllocError>
+    requires { names.now ≡ procedure_names (procedure_of f.now) }
+    ensures { IfOk result (λ numbers. AreNamesOf (procedure_of f.entry.now) numbers) }
 {
-    let all = variable_names(alloc, f)?;
-    distinct_names(alloc, all.as_slice())
+    VariableNumbers::new(alloc, names)
 }
 
 // A name is one, by its type.

@@ -3,12 +3,10 @@
 #![tactic(auto)]
 
 mod arguments;
-mod depth;
-mod distinct;
 mod flat;
 mod flattening;
 mod laws;
-mod names;
+mod numbers;
 mod placed;
 mod places;
 mod registers;

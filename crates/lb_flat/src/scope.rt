@@ -11,6 +11,7 @@ ghost use Rattle.lb_flat.specs.Flatten.{place_in, temporaries};
 ghost use Rattle.lb_flat.specs.InternalFlatten.{emitted, Writes};
 
 use crate::flat::{FlatBlock, FlatCmd};
+use crate::numbers::VariableNumbers;
 use lb_syntax::{Action, Block, Cmd, Expr, Function, Name, Width};
 use sqlite_items::Items;
 use std::alloc::{AllocError, Global};
@@ -22,7 +23,7 @@ use std::marker::Model;
 pub struct Scope<'a> {
     alloc: Global,
     functions: &'a [Function],
-    names: Vec<Name>,
+    names: VariableNumbers<'a>,
 }
 
 impl<'a> Model for Scope<'a> {
@@ -34,9 +35,9 @@ impl<'a> Model for Scope<'a> {
 
     ghost Value = { Numbering };
 
-    ghost view = { λ s. record { functions = function_names (map procedure_of s.functions.now); names = s.names.items } };
+    ghost view = { λ s. record { functions = function_names (map procedure_of s.functions.now); names = s.names } };
 
-    ghost invariant = { λ s. (length s.names.items < 2 ^ 32) × (length s.functions.now ≤ MOST_FUNCTIONS) };
+    ghost invariant = { λ s. (length s.names < 2 ^ 32) × (length s.functions.now ≤ MOST_FUNCTIONS) };
 }
 
 impl<'a> Scope<'a> {
@@ -45,18 +46,18 @@ impl<'a> Scope<'a> {
     ghost use Rattle.lb_syntax.specs.Names.{IsName};
     ghost use Rattle.lb_syntax.specs.Tree.{Sets, Stores, Calls, Interacts, procedure_of, term_of, command_of, block_of};
     ghost use Rattle.lb_syntax.specs.Rules.{function_names};
-    ghost use Rattle.lb_syntax.specs.WellFormed.{IsTerm, IsCommand, IsBlock};
-    ghost use Rattle.lb_flat.specs.Code.{Loop, Nothing, Sequence};
+    ghost use Rattle.lb_syntax.specs.WellFormed.{IsWord, IsTerm, IsCommand, IsBlock};
+    ghost use Rattle.lb_flat.specs.Code.{Reserve, Branch, Loop, Nothing, Sequence};
     ghost use Rattle.lb_flat.specs.Flat.{flat_block};
     ghost use Rattle.lb_flat.specs.Flatten.{place_in, temporaries};
     ghost use Rattle.lb_flat.specs.InternalFlatten.{Writes, code_of_term, code_of_terms, code_of, HasTermRoom, HasTermsRoom, HasRoom};
 
     // A scope of these functions and names.
-    pub fn new(alloc: Global, functions: &'a [Function], names: Vec<Name>) -> Scope<'a>
-        requires names { length names.items < 2 ^ 32 }
+    pub fn new(alloc: Global, functions: &'a [Function], names: VariableNumbers<'a>) -> Scope<'a>
+        requires names { length names < 2 ^ 32 }
         requires functions { length functions.now ≤ MOST_FUNCTIONS }
         ensures functions { result.functions ≡ function_names (map procedure_of functions.entry.now) }
-        ensures names { result.names ≡ names.items }
+        ensures names { result.names ≡ names.entry }
     {
         Scope {
             alloc,
@@ -77,7 +78,7 @@ impl<'a> Scope<'a> {
         ensures value { result ≡ place_in self.now.names name.now }
         ensures is_name { IsName name.now }
     {
-        place_of_name(self.names.as_slice(), name)
+        self.names.number(name)
     }
 
     // The numbers of several variables.
@@ -176,7 +177,8 @@ impl<'a> Scope<'a> {
         value: &Expr,
     ) -> Result<(), AllocError>
         requires { HasRoom (length self.now.names) (Sets target.now (term_of value.now)) }
-        ensures code { OnOk result (Writes code.old code.new (code_of self.now (Sets target.now (term_of value.now)))) }
+        ensures code { OnOk result (Writes code.old code.new (code_of self.now
+            (Sets target.now (term_of value.now)))) }
         ensures well_formed { OnOk result (IsCommand (Sets target.now (term_of value.now))) }
     {
         let t = self.first_temporary();
@@ -199,7 +201,8 @@ impl<'a> Scope<'a> {
         value: &Expr,
     ) -> Result<(), AllocError>
         requires { HasRoom (length self.now.names) (Stores width (term_of address.now) (term_of value.now)) }
-        ensures code { OnOk result (Writes code.old code.new (code_of self.now (Stores width (term_of address.now) (term_of value.now)))) }
+        ensures code { OnOk result (Writes code.old code.new (code_of self.now
+            (Stores width (term_of address.now) (term_of value.now)))) }
         ensures well_formed { OnOk result (IsCommand (Stores width (term_of address.now) (term_of value.now))) }
     {
         let t = self.first_temporary();
@@ -224,7 +227,8 @@ impl<'a> Scope<'a> {
         arguments: &[Expr],
     ) -> Result<(), AllocError>
         requires { HasRoom (length self.now.names) (Calls targets.now function.now (map term_of arguments.now)) }
-        ensures code { OnOk result (Writes code.old code.new (code_of self.now (Calls targets.now function.now (map term_of arguments.now)))) }
+        ensures code { OnOk result (Writes code.old code.new (code_of self.now
+            (Calls targets.now function.now (map term_of arguments.now)))) }
         ensures well_formed { OnOk result (IsCommand (Calls targets.now function.now (map term_of arguments.now))) }
     {
         let t = self.first_temporary();
@@ -251,7 +255,8 @@ impl<'a> Scope<'a> {
         arguments: &[Expr],
     ) -> Result<(), AllocError>
         requires { HasRoom (length self.now.names) (Interacts targets.now action (map term_of arguments.now)) }
-        ensures code { OnOk result (Writes code.old code.new (code_of self.now (Interacts targets.now action (map term_of arguments.now)))) }
+        ensures code { OnOk result (Writes code.old code.new (code_of self.now
+            (Interacts targets.now action (map term_of arguments.now)))) }
         ensures well_formed { OnOk result (IsCommand (Interacts targets.now action (map term_of arguments.now))) }
     {
         let t = self.first_temporary();
@@ -264,6 +269,55 @@ impl<'a> Scope<'a> {
                 targets,
                 action,
                 arguments,
+            },
+        )
+    }
+
+    // Adds the code of a block of memory round this body.
+    fn add_stack_block(
+        &self,
+        code: &mut Items<FlatCmd>,
+        bytes: u32,
+        target: &Name,
+        body: FlatBlock,
+    ) -> Result<(), AllocError>
+        ensures code { let target = place_in self.now.names target.now in
+            OnOk result (Writes code.old code.new (Sequence (Reserve bytes target (flat_block body)))) }
+        ensures well_formed { OnOk result (IsWord bytes × IsName target.now) }
+    {
+        let (bytes, target) = (word(bytes), self.number(target));
+        add(
+            code,
+            FlatCmd::StackAlloc {
+                bytes,
+                target,
+                body,
+            },
+        )
+    }
+
+    // Adds the code of a choice between these blocks.
+    fn add_branch(
+        &self,
+        code: &mut Items<FlatCmd>,
+        condition: &Expr,
+        yes: FlatBlock,
+        no: FlatBlock,
+    ) -> Result<(), AllocError>
+        requires { HasTermRoom (length self.now.names) (term_of condition.now) }
+        ensures code { let t = length self.now.names in
+            OnOk result (Writes code.old code.new (λ rest. code_of_term self.now (term_of condition.now) t
+            (Sequence (Branch t (flat_block yes) (flat_block no)) rest))) }
+        ensures well_formed { OnOk result (IsTerm (term_of condition.now)) }
+    {
+        let t = self.first_temporary();
+        self.add_term(code, condition, t)?;
+        add(
+            code,
+            FlatCmd::If {
+                condition: t,
+                yes,
+                no,
             },
         )
     }
@@ -317,29 +371,12 @@ impl<'a> Scope<'a> {
                 target,
                 body,
             } => {
-                let (bytes, target) = (word(*bytes), self.number(target));
                 let body = self.block(body)?;
-                add(
-                    code,
-                    FlatCmd::StackAlloc {
-                        bytes,
-                        target,
-                        body,
-                    },
-                )
+                self.add_stack_block(code, *bytes, target, body)
             }
             Cmd::If { condition, yes, no } => {
-                let t = self.first_temporary();
-                self.add_term(code, condition, t)?;
                 let (yes, no) = (self.block(yes)?, self.block(no)?);
-                add(
-                    code,
-                    FlatCmd::If {
-                        condition: t,
-                        yes,
-                        no,
-                    },
-                )
+                self.add_branch(code, condition, yes, no)
             }
             Cmd::While { condition, body } => {
                 let body = self.block(body)?;
@@ -371,23 +408,6 @@ impl<'a> Scope<'a> {
         }
         Ok(closed(code))
     }
-}
-
-// The place of the first of these names that is this one; their number where none is.
-fn place_of_name(names: &[Name], name: &Name) -> u32
-    requires { length names.now < 2 ^ 32 }
-    ensures value { result ≡ place_in names.now name.now }
-    ensures is_name { IsName name.now }
-{
-    let bytes = name.as_bytes();
-    let mut place = 0;
-    for other in names {
-        if other.as_bytes() == bytes {
-            return place;
-        }
-        place += 1;
-    }
-    place
 }
 
 /// The place of the first of these functions that has the name; their number where none has.
