@@ -1,0 +1,7 @@
+mod BlockLemmas
+mod BitLemmas
+mod SeparationLemmas
+mod NameLemmas
+mod OwnLemmas
+mod ServedLemmas
+mod AcceptLemmas

@@ -1,0 +1,4 @@
+pub mod Keeping
+pub mod Registers
+pub mod InternalSets
+pub mod InternalOwn
