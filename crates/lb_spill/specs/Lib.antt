@@ -1,0 +1,2 @@
+pub mod InternalSpill
+pub mod Placing

@@ -1,0 +1,3 @@
+pub mod WalkNames
+pub mod ChosenAccepted
+pub mod DoublingOrder
