@@ -1,0 +1,3 @@
+pub mod InternalFrame
+pub mod InternalEmit
+pub mod InternalProgram

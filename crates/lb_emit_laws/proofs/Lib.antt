@@ -1,0 +1,26 @@
+pub mod Bytes
+pub mod Owned
+pub mod Places
+pub mod Steps
+pub mod Pieces
+pub mod Outcomes
+pub mod Ordered
+pub mod Relation
+pub mod CodeLengths
+pub mod Passing
+pub mod SavedRegisters
+pub mod CodeRuns
+pub mod CalledLemmas
+pub mod PlainRuns
+pub mod CommandRuns
+pub mod CallRuns
+pub mod SavedLemmas
+pub mod FrameLemmas
+pub mod WordLemmas
+pub mod AccessLemmas
+pub mod LayoutLemmas
+pub mod RangeLemmas
+pub mod ProgramPlaces
+pub mod ProgramRuns
+pub mod TheoremLemmas
+mod Example

@@ -1,0 +1,86 @@
+// Programs with large frames, deep stacks and far branches.
+use crate::compiled::compile_in_slots;
+use crate::ran::{expect, expect_in_slots, expect_of};
+use std::alloc::{AllocError, Global};
+use std::test::Fail;
+
+// A function without parameters whose frame has a block of so many bytes: it writes a value to the last of them, and passes
+// it to the device. It asks for 152 bytes more than its block.
+fn one_block(alloc: Global, bytes: u32) -> Result<String, AllocError> {
+    let last = bytes.saturating_sub(1);
+    format!(in alloc;
+        "fn init() {{ stackalloc {bytes} as p {{ store1((p + {last}), 77); MMIOWRITE(0x1001200C, load1((p + {last}))); }} }} fn loop() {{ x = MMIOREAD(0x10024048); }}"
+    )
+}
+
+// Adds a text several times.
+fn add(text: &mut String, piece: &str, times: u32) -> Result<(), AllocError> {
+    for _ in 0..times {
+        text.push_str(piece)?;
+    }
+    Ok(())
+}
+
+// Frames that ask for 2,028, 2,032, 2,036 and 32,768 bytes.
+#[test]
+fn reaches_whole_frames(rt: HostRuntime) -> Result<(), Fail> {
+    let alloc = rt.alloc();
+    for bytes in [1876, 1880, 1884, 32616] {
+        let text = one_block(alloc, bytes)?;
+        expect(&rt, alloc, text.as_str(), &[], "77 wants")?;
+        expect_in_slots(&rt, alloc, text.as_str(), &[], "77 wants")?;
+    }
+    // four frames of 16,384 bytes, one upon the other: each has its last word before and after the call
+    let chain =
+        "fn init() { stackalloc 16224 as p { store4((p + 16220), 5); r = f(load4((p + 16220))); MMIOWRITE(0x1001200C, (r + load4((p + 16220)))); } } fn f(x) -> (y) { stackalloc 16220 as p { store4((p + 16216), x); y = g((x + 1)); y = (y + load4((p + 16216))); } } fn g(x) -> (y) { stackalloc 16220 as p { store4((p + 16216), x); y = h((x + 1)); y = (y + load4((p + 16216))); } } fn h(x) -> (y) { stackalloc 16220 as p { store4((p + 16216), x); y = (load4((p + 16216)) + 1); } } fn loop() { x = MMIOREAD(0x10024048); }";
+    expect(&rt, alloc, chain, &[], "24 wants")?;
+    expect_in_slots(&rt, alloc, chain, &[], "24 wants")?;
+    Ok(())
+}
+
+// Code over 4 KiB that an `if` and a loop jump over, and that a loop jumps back over.
+#[test]
+fn jumps_over_long_code(rt: HostRuntime) -> Result<(), Fail> {
+    let alloc = rt.alloc();
+    let mut text = String::from_str(alloc, "fn init() { x = 0; while (x < 900) {")?;
+    add(&mut text, " x = (x + 1);", 300)?;
+    text.push_str(" } MMIOWRITE(0x1001200C, x); if (x == 900) {")?;
+    add(&mut text, " x = (x + 2);", 300)?;
+    text.push_str(" } else {")?;
+    add(&mut text, " x = (x + 3);", 300)?;
+    text.push_str(" } MMIOWRITE(0x1001200C, x); } fn loop() { x = MMIOREAD(0x10024048); }")?;
+    expect(&rt, alloc, text.as_str(), &[], "900 1500 wants")?;
+    Ok(())
+}
+
+// Slots further from the stack pointer than an immediate reaches, and a loop over 64 KiB of code: 560 variables are set by
+// calls, and then a test for equality is done 51 times for each of 20 times that a number goes up.
+#[test]
+fn reaches_far_slots_and_jumps_over_64_kib(rt: HostRuntime) -> Result<(), Fail> {
+    let alloc = rt.alloc();
+    let mut text = String::from_str(
+        alloc,
+        "fn f() -> (a, b, c, d, e, f, g, h) { a = 1; b = 2; c = 3; d = 4; e = 5; f = 6; g = 7; h = 8; } fn init() {",
+    )?;
+    for i in 0..70u32 {
+        let call = format!(in alloc; " a{i}, b{i}, c{i}, d{i}, e{i}, f{i}, g{i}, h{i} = f();")?;
+        text.push_str(call.as_str())?;
+    }
+    text.push_str(" x = 1; n = 0; while (n < 40) {")?;
+    for _ in 0..20 {
+        text.push_str(" n = (n + ")?;
+        add(&mut text, "(x == ", 49)?;
+        text.push_str("x")?;
+        add(&mut text, ")", 49)?;
+        text.push_str(");")?;
+    }
+    text.push_str(
+        " } MMIOWRITE(0x1001200C, n); MMIOWRITE(0x1001200C, (a0 + (10 * (h0 + (10 * (a69 + (10 * h69))))))); } fn loop() { x = MMIOREAD(0x10024048); }",
+    )?;
+    let emitted = compile_in_slots(alloc, text.as_str())?;
+    // the loop's body alone has 20 times 861 instructions
+    assert!(rt; emitted.code.len() > 17_220);
+    expect_of(&rt, alloc, &emitted, &[], "40 8181 wants")?;
+    expect(&rt, alloc, text.as_str(), &[], "40 8181 wants")?;
+    Ok(())
+}
