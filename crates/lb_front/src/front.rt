@@ -1,9 +1,9 @@
 // Where fetch is, its epoch and its predictions.
 ghost use Rattle.std.specs.Prelude.{◌≡◌, slice_get};
-ghost use Rattle.lb_outcome.specs.Fetching.{word_at};
 ghost use Rattle.lb_front.specs.Prediction.{advanced, booted_front, fetched_item, place, prediction, redirected, target_at};
 
 use crate::FetchItem;
+use lb_outcome::at_address;
 use lb_word::add;
 use std::marker::Model;
 
@@ -23,11 +23,15 @@ pub struct Front {
 }
 
 impl Model for Front {
+    ghost use Rattle.std.specs.Prelude.{◌≡◌, length};
     ghost use Rattle.lb_front.specs.Prediction.{FrontContent};
 
     ghost Value = { FrontContent };
 
     ghost view = { λ f. record { pc = f.pc; epoch = f.epoch; table = f.table } };
+
+    // Each place that an address has is there, so a redirect always writes one.
+    ghost invariant = { λ f. length f.table ≡ 16 };
 }
 
 impl Front {
@@ -62,7 +66,7 @@ impl Front {
     {
         FetchItem {
             pc: self.pc,
-            word: word_of(code, self.pc),
+            word: at_address(code, self.pc),
             predicted: self.predicted(),
             epoch: self.epoch,
         }
@@ -104,15 +108,4 @@ fn place_of(pc: u32) -> usize
     ensures { result ≡ place pc }
 {
     (pc / 4 % 16) as usize
-}
-
-// The code's word at an address; none at an address of no word.
-fn word_of(code: &[u32], pc: u32) -> Option<u32>
-    ensures { result ≡ word_at code.now pc }
-{
-    if pc % 4 == 0 {
-        code.get((pc / 4) as usize).copied()
-    } else {
-        None
-    }
 }

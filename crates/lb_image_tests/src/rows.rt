@@ -1,6 +1,8 @@
 // Images and bytes that are none, by their words behind the first one.
 use crate::answer::{bytes_of_row, expect};
-use lb_image::{from_bytes, to_bytes};
+use lb_image::{Code, Image, from_bytes, to_bytes};
+use lb_syntax::Layout;
+use sqlite_items::Items;
 use std::alloc::Global;
 use std::process::Abort;
 use std::test::Fail;
@@ -50,6 +52,21 @@ fn reads_and_writes_whole_images(rt: HostRuntime) -> Result<(), Fail> {
     whole_alone(&rt, rt.alloc(), row.as_slice())?;
     let frames = bytes_of_row(rt.alloc(), FRAMES)?;
     whole_alone(&rt, rt.alloc(), frames.as_slice())
+}
+
+#[test]
+fn writes_an_image_made_by_hand(rt: HostRuntime) -> Result<(), Fail> {
+    let image = Image {
+        code: Code::from_vec(vec![in rt.alloc(); 111]?),
+        layout: Layout {
+            frames: Items::new(rt.alloc()),
+        },
+        entry: 0,
+    };
+    let written = to_bytes(rt.alloc(), &image)?;
+    let row = bytes_of_row(rt.alloc(), JUMP)?;
+    assert_eq!(rt; written.as_slice(), row.as_slice());
+    Ok(())
 }
 
 // The bytes are an image's; cut short or with a byte more they aren't.

@@ -11,7 +11,7 @@ ghost use Rattle.lb_isa.specs.Moves.{IsRefused, after, answer, goes_on, next_ans
 ghost use Rattle.lb_isa.specs.Runs.{IsBootable, booted};
 ghost use Rattle.lb_isa.specs.Steps.{instruction_outcome};
 
-use lb_outcome::{Executed, Outcome, Ram, Registers, halt, outcome};
+use lb_outcome::{Executed, Outcome, Ram, Registers, at_address, halt, outcome};
 use lb_rv::{Cause, Instr, decode, reads, writes};
 use lb_trace::Event;
 use std::alloc::{AllocError, Global};
@@ -114,10 +114,7 @@ impl Isa {
     fn fetched(&self) -> Option<Option<Instr>>
         ensures { result ≡ option_map instruction_of (word_at self.now.code self.now.pc) }
     {
-        if self.pc % 4 != 0 {
-            return None;
-        }
-        self.instructions.get((self.pc / 4) as usize).copied()
+        at_address(&self.instructions, self.pc)
     }
 
     // The outcome of an instruction at the pc.

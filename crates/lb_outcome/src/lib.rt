@@ -1,12 +1,14 @@
 //! The outcome of an instruction, the registers and RAM: what all that runs instructions shares.
 #![tactic(auto)]
 
+mod fetching;
 mod memory_map;
 mod outcomes;
 mod ram;
 mod registers;
 mod types;
 
+pub use fetching::at_address;
 pub use outcomes::{halt, outcome};
 pub use ram::Ram;
 pub use registers::Registers;

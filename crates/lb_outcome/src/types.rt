@@ -1,4 +1,7 @@
 // The outcome of an instruction.
+ghost use Rattle.std.specs.Prelude.{◌≡◌};
+ghost use Rattle.lb_outcome.specs.declared.types.Outcome.TheVariants.{Plain};
+
 use lb_rv::{Cause, Instr};
 
 /// What an instruction comes to, before its access is done.
@@ -30,6 +33,15 @@ pub enum Outcome {
     Halt {
         cause: Cause,
     },
+}
+
+impl Default for Outcome {
+    /// The outcome of an instruction that does nothing.
+    fn default() -> Outcome
+        ensures { result ≡ Plain 0 0 }
+    {
+        Outcome::Plain { rd: 0, value: 0 }
+    }
 }
 
 /// The outcome of an instruction, and the address of the next one.
