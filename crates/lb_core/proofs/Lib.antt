@@ -1,0 +1,10 @@
+pub mod AheadLemmas
+pub mod BackRows
+pub mod EpochLemmas
+pub mod FrontRows
+pub mod PotentialLemmas
+pub mod Rows
+pub mod RunLemmas
+pub mod ScheduleLemmas
+pub mod ScoreboardLemmas
+pub mod Tools
