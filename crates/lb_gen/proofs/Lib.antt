@@ -1,0 +1,6 @@
+mod NameLemmas
+mod Members
+mod CallLemmas
+mod DrawLemmas
+pub mod RulesKept
+mod WholeLemmas

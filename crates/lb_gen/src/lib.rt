@@ -1,0 +1,12 @@
+//! Large programs that a seed makes.
+#![tactic(auto)]
+
+mod drawn;
+mod function;
+mod laws;
+mod make;
+mod program;
+mod words;
+
+pub use laws::all_are_large;
+pub use program::{checked_program, large_program};
