@@ -1,0 +1,18 @@
+//! The supplied program, which is for the lamp: it never goes wrong.
+#![tactic(auto)]
+
+mod boot;
+mod exchange;
+mod laws;
+mod make;
+mod packet;
+mod round;
+mod text;
+mod transaction;
+mod tree;
+mod waits;
+mod words;
+
+pub use laws::{keeps_rules, never_goes_wrong};
+pub use text::source;
+pub use tree::program;
