@@ -1,0 +1,7 @@
+pub mod Crossing
+mod ListLemmas
+mod StepLemmas
+mod PlayLemmas
+mod OpeningLemmas
+mod ClosingLemmas
+mod CallLemmas

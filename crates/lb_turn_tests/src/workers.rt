@@ -1,0 +1,176 @@
+// Threads that act by their seats.
+ghost use Rattle.std.specs.Prelude.{IfOk};
+ghost use Rattle.lb_turn.specs.Seats.{IsOf};
+
+use crate::gate::Gate;
+use crate::tape::{NotFired, Tape};
+use lb_trace::{Entry, Kind};
+use lb_turn::{Seat, Turn, TurnFault};
+use std::alloc::{AllocError, Global};
+use std::thread;
+use std::thread::Threads;
+
+/// How often a worker tries.
+const MOST_TRIES: u64 = 1_000_000_000;
+
+/// A turn and its two seats.
+pub struct Pair {
+    pub turn: Turn<Tape>,
+    pub first: Seat<Tape>,
+    pub second: Seat<Tape>,
+}
+
+/// Opens a turn of two seats. Fails only for want of memory.
+pub fn open_pair(alloc: Global, tape: Tape) -> Result<Pair, AllocError>
+    ensures { IfOk result (λ p. IsOf p.turn p.first × IsOf p.turn p.second) }
+{
+    let (turn, mut seats) = Turn::open(alloc, tape, 2)?;
+    let second = seats.remove(1);
+    let first = seats.remove(0);
+    Ok(Pair {
+        turn,
+        first,
+        second,
+    })
+}
+
+/// How often a seat fired, found the machine full, and was told anything else.
+#[derive(Clone, Copy, Debug, PartialEq, Eq)]
+pub struct Tries {
+    pub fired: u32,
+    pub full: u32,
+    pub other: u32,
+}
+
+/// Tries to fetch so often. The first entry is to have the place 0; from then on the machine is to be
+/// full with 1.
+pub fn fetch_often(turn: &Turn<Tape>, seat: &mut Seat<Tape>, times: u32) -> Tries
+    requires { IsOf turn.now seat.old }
+    ensures { IsOf turn.now seat.new }
+{
+    let mut tries = Tries {
+        fired: 0,
+        full: 0,
+        other: 0,
+    };
+    for _ in 0..times {
+        match turn.try_fire(seat, Kind::Fetch) {
+            Ok(0) => tries.fired = tries.fired.saturating_add(1),
+            Err(
+                TurnFault::NotFired {
+                    seen: 1,
+                    why: NotFired::Full,
+                },
+            ) => tries.full = tries.full.saturating_add(1),
+            _ => tries.other = tries.other.saturating_add(1),
+        }
+    }
+    tries
+}
+
+/// A seat, and the places of its entries.
+#[derive(Drop)]
+pub struct Worker {
+    pub seat: Seat<Tape>,
+    pub places: Vec<u64>,
+}
+
+// Boots until the machine is full, or a very long time.
+fn boot_until_full(turn: &Turn<Tape>, worker: Worker) -> Worker
+    requires { IsOf turn.now worker.seat }
+    ensures { IsOf turn.now result.seat }
+{
+    let Worker {
+        mut seat,
+        mut places,
+    } = worker;
+    for _ in 0..MOST_TRIES {
+        match turn.try_fire(&mut seat, Kind::Boot) {
+            Ok(place) => {
+                let _ = places.push(place);
+            }
+            Err(TurnFault::Busy { holder: _ }) => {}
+            Err(TurnFault::NotFired { seen: _, why: _ }) => break,
+        }
+    }
+    Worker { seat, places }
+}
+
+/// Both workers boot until the machine is full, each in a thread of its own.
+pub fn fill<R: Threads>(rt: &R, turn: &Turn<Tape>, a: Worker, b: Worker) -> (Worker, Worker)
+    requires { IsOf turn.now a.seat × IsOf turn.now b.seat }
+    ensures { IsOf turn.now result.0.seat × IsOf turn.now result.1.seat }
+{
+    thread::join(
+        rt,
+        || -> Worker
+            requires { IsOf turn.now a.seat }
+            ensures { IsOf turn.entry.now result.seat }
+        { boot_until_full(turn, a) },
+        || -> Worker
+            requires { IsOf turn.now b.seat }
+            ensures { IsOf turn.entry.now result.seat }
+        { boot_until_full(turn, b) },
+    )
+}
+
+/// Whether these are the places of the worker's entries, in order.
+pub fn are_places(places: &[u64], worker: u8, log: &[Entry]) -> bool {
+    let mut left = places.iter();
+    for (place, e) in log.iter().enumerate() {
+        if e.worker == worker && left.next().copied() != Some(place as u64) {
+            return false;
+        }
+    }
+    left.next().is_none()
+}
+
+// Fires once.
+fn hold(turn: &Turn<Tape>, mut seat: Seat<Tape>) -> (Seat<Tape>, bool)
+    requires { IsOf turn.now seat }
+    ensures { IsOf turn.now result.0 }
+{
+    let fired = matches!(turn.try_fire(&mut seat, Kind::Fetch), Ok(0));
+    (seat, fired)
+}
+
+// Tries while another seat acts, and then opens the gate. Whether it met the seat 0, and what it
+// loaded.
+fn meet(turn: &Turn<Tape>, gate: &Gate, mut seat: Seat<Tape>) -> (Seat<Tape>, bool, u64)
+    requires { IsOf turn.now seat }
+    ensures { IsOf turn.now result.0 }
+{
+    gate.await_act();
+    let met = matches!(
+        turn.try_fire(&mut seat, Kind::Boot),
+        Err(TurnFault::Busy { holder: 0 })
+    );
+    let count = turn.seen_now(&mut seat);
+    gate.open();
+    (seat, met, count)
+}
+
+/// The first seat fires, the second tries while it acts. Whether the first fired, whether the second
+/// met it, and what the second loaded meanwhile.
+pub fn meet_holder<R: Threads>(
+    rt: &R,
+    gate: &Gate,
+    turn: &Turn<Tape>,
+    a: Seat<Tape>,
+    b: Seat<Tape>,
+) -> ((Seat<Tape>, bool), (Seat<Tape>, bool, u64))
+    requires { IsOf turn.now a × IsOf turn.now b }
+    ensures { IsOf turn.now result.0.0 × IsOf turn.now result.1.0 }
+{
+    thread::join(
+        rt,
+        || -> (Seat<Tape>, bool)
+            requires { IsOf turn.now a }
+            ensures { IsOf turn.entry.now result.0 }
+        { hold(turn, a) },
+        || -> (Seat<Tape>, bool, u64)
+            requires { IsOf turn.now b }
+            ensures { IsOf turn.entry.now result.0 }
+        { meet(turn, gate, b) },
+    )
+}
