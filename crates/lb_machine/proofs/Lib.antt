@@ -1,0 +1,5 @@
+pub mod BoardLemmas
+pub mod CoreLemmas
+pub mod LogLemmas
+pub mod MachineLemmas
+pub mod RowLemmas

@@ -1,0 +1,28 @@
+// A turn over a machine.
+ghost use Rattle.std.specs.Prelude.{IfOk};
+ghost use Rattle.lb_turn.specs.Seats.{IsOf};
+
+use lb_machine::Machine;
+use lb_turn::{Seat, Turn};
+use std::alloc::{AllocError, Global};
+
+/// A turn over a machine, and its two seats.
+pub struct Pair {
+    pub turn: Turn<Machine>,
+    pub first: Seat<Machine>,
+    pub second: Seat<Machine>,
+}
+
+/// Opens a turn of two seats. Fails only for want of memory.
+pub fn open_pair(alloc: Global, machine: Machine) -> Result<Pair, AllocError>
+    ensures { IfOk result (λ p. IsOf p.turn p.first × IsOf p.turn p.second) }
+{
+    let (turn, mut seats) = Turn::open(alloc, machine, 2)?;
+    let second = seats.remove(1);
+    let first = seats.remove(0);
+    Ok(Pair {
+        turn,
+        first,
+        second,
+    })
+}
