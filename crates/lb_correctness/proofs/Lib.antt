@@ -1,0 +1,4 @@
+pub mod WordLemmas
+pub mod ReplyLemmas
+pub mod ImageLemmas
+pub mod MachineLemmas
