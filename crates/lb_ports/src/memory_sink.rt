@@ -87,6 +87,7 @@ impl Sink for MemorySink {
         ensures bytes { WriteAppends (Some self.old.held) (Some self.new.held) result bytes.now }
         ensures later { self.old.faults ≤ self.new.faults }
         ensures cause { TakesNothing result bytes.now → Rose self.old.faults self.new.faults }
+        ensures steady { ¬ TakesNothing result bytes.now → self.new.faults ≡ self.old.faults }
         ensures fails { IsErr result ↔ (Refuses self.old bytes.now) }
         ensures taken { IfOk result (λ n.
             n ≡ min self.old.piece (min (length bytes.now) self.old.room)) }

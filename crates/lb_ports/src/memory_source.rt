@@ -1,5 +1,5 @@
 // A source in memory, which fails at the calls that it is told.
-ghost use Rattle.std.specs.Prelude.{◌≡◌, ◌≤◌, ◌↔◌, length, drop, min, vec_len, Contains, IfOk, IsErr, OnErr, Some};
+ghost use Rattle.std.specs.Prelude.{◌≡◌, ◌≤◌, ◌↔◌, length, drop, min, vec_len, Contains, IfOk, IsErr, OnErr, OnOk, Some};
 ghost use Rattle.std.specs.Io.{ReadsAtMost};
 ghost use Rattle.std.specs.Io.KnownBytes.{ReadConsumes};
 ghost use Rattle.lb_ports.specs.Faults.{Rose};
@@ -74,6 +74,7 @@ impl Source for MemorySource {
         ensures bytes { ReadConsumes (Some self.old.left) (Some self.new.left) result buf.new }
         ensures later { self.old.faults ≤ self.new.faults }
         ensures cause { OnErr result (Rose self.old.faults self.new.faults) }
+        ensures steady { OnOk result (self.new.faults ≡ self.old.faults) }
         ensures fails { IsErr result ↔ (Contains self.old.fails self.old.calls) }
         ensures given { IfOk result (λ n.
             n ≡ min self.old.piece (min (length buf.old) (length self.old.left))) }

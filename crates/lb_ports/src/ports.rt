@@ -1,5 +1,5 @@
 // The traits of the outside.
-ghost use Rattle.std.specs.Prelude.{ℕ, ◌≤◌, List, OnErr};
+ghost use Rattle.std.specs.Prelude.{◌≡◌, ℕ, ◌≤◌, List, OnErr, OnOk};
 ghost use Rattle.std.specs.declared.option.Option.{Option};
 ghost use Rattle.std.specs.Io.{ReadsAtMost, WritesAtMost};
 ghost use Rattle.std.specs.Io.KnownBytes.{ReadConsumes, WriteAppends};
@@ -21,12 +21,14 @@ pub trait Source {
     /// `buf` may hold anything. `Ok(0)` for a buffer that isn't empty is the end of the input.
     ///
     /// # Errors
-    /// `Failed` only where the count of faults rose in this call. Nothing is taken then.
+    /// `Failed` only where the count of faults rose in this call. Nothing is taken then. With any other answer the
+    /// count is as it was.
     fn read(&mut self, buf: &mut [u8]) -> Result<usize, Failed>
         ensures bound { ReadsAtMost result buf.new }
         ensures bytes { ReadConsumes (left self.old) (left self.new) result buf.new }
         ensures later { faults self.old ≤ faults self.new }
-        ensures cause { OnErr result (Rose (faults self.old) (faults self.new)) };
+        ensures cause { OnErr result (Rose (faults self.old) (faults self.new)) }
+        ensures steady { OnOk result (faults self.new ≡ faults self.old) };
 }
 
 /// Where bytes go.
@@ -41,10 +43,11 @@ pub trait Sink {
     ///
     /// # Errors
     /// `Failed`, and `Ok(0)` for bytes that aren't empty, only where the count of faults rose in this call.
-    /// Nothing is appended then.
+    /// Nothing is appended then. With any other answer the count is as it was.
     fn write(&mut self, bytes: &[u8]) -> Result<usize, Failed>
         ensures bound { WritesAtMost result bytes.now }
         ensures bytes { WriteAppends (held self.old) (held self.new) result bytes.now }
         ensures later { faults self.old ≤ faults self.new }
-        ensures cause { TakesNothing result bytes.now → Rose (faults self.old) (faults self.new) };
+        ensures cause { TakesNothing result bytes.now → Rose (faults self.old) (faults self.new) }
+        ensures steady { ¬ TakesNothing result bytes.now → faults self.new ≡ faults self.old };
 }

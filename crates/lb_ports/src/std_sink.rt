@@ -3,9 +3,10 @@ ghost use Rattle.std.specs.Prelude.{◌≡◌, ◌≤◌};
 ghost use Rattle.std.specs.Io.{WritesAtMost};
 ghost use Rattle.std.specs.Io.KnownBytes.{WriteAppends};
 ghost use Rattle.lb_ports.specs.Faults.{Rose, TakesNothing, next_count};
+ghost use Rattle.lb_ports.specs.InternalAnswers.{IsWriteAnswer};
 
 use crate::ports::{Failed, Sink};
-use std::io::Write;
+use std::io::{self, Write};
 
 /// A writer of std, with a count of its errors, and of its writes that took nothing of a piece that isn't empty.
 #[derive(Drop)]
@@ -36,20 +37,22 @@ impl<W: Write> Sink for StdSink<W> {
         ensures later { self.old.faults ≤ self.new.faults }
         ensures cause { TakesNothing result bytes.now → Rose self.old.faults self.new.faults }
         ensures counted { TakesNothing result bytes.now → self.new.faults ≡ next_count self.old.faults }
-        ensures uncounted { ¬ TakesNothing result bytes.now → self.new.faults ≡ self.old.faults }
+        ensures steady { ¬ TakesNothing result bytes.now → self.new.faults ≡ self.old.faults }
     {
-        match self.inner.write(bytes) {
-            Ok(0) => {
-                if !bytes.is_empty() {
-                    self.faults = self.faults.saturating_add(1);
-                }
-                Ok(0)
-            }
-            Ok(count) => Ok(count),
-            Err(_) => {
-                self.faults = self.faults.saturating_add(1);
-                Err(Failed)
-            }
-        }
+        let taken = self.inner.write(bytes);
+        let (answer, faults) = write_answer(taken, bytes, self.faults);
+        self.faults = faults;
+        answer
+    }
+}
+
+// What the sink answers to what its writer took of the piece, and its count of faults behind that.
+fn write_answer(taken: io::Result<usize>, piece: &[u8], faults: u64) -> (Result<usize, Failed>, u64)
+    ensures { IsWriteAnswer taken piece.now faults result.0 result.1 }
+{
+    match taken {
+        Ok(0) if !piece.is_empty() => (Ok(0), faults.saturating_add(1)),
+        Ok(count) => (Ok(count), faults),
+        Err(_) => (Err(Failed), faults.saturating_add(1)),
     }
 }

@@ -1,11 +1,12 @@
 // std's readers as sources.
-ghost use Rattle.std.specs.Prelude.{◌≡◌, ◌≤◌, MatchResult, OnErr};
+ghost use Rattle.std.specs.Prelude.{◌≡◌, ◌≤◌, OnErr, OnOk};
 ghost use Rattle.std.specs.Io.{ReadsAtMost};
 ghost use Rattle.std.specs.Io.KnownBytes.{ReadConsumes};
 ghost use Rattle.lb_ports.specs.Faults.{Rose, next_count};
+ghost use Rattle.lb_ports.specs.InternalAnswers.{IsReadAnswer};
 
 use crate::ports::{Failed, Source};
-use std::io::Read;
+use std::io::{self, Read};
 
 /// A reader of std, with a count of its errors.
 #[derive(Drop)]
@@ -35,15 +36,22 @@ impl<R: Read> Source for StdSource<R> {
             result buf.new }
         ensures later { self.old.faults ≤ self.new.faults }
         ensures cause { OnErr result (Rose self.old.faults self.new.faults) }
-        ensures counted { MatchResult result (λ _. self.new.faults ≡ self.old.faults)
-            (λ _. self.new.faults ≡ next_count self.old.faults) }
+        ensures steady { OnOk result (self.new.faults ≡ self.old.faults) }
+        ensures counted { OnErr result (self.new.faults ≡ next_count self.old.faults) }
     {
-        match self.inner.read(buf) {
-            Ok(count) => Ok(count),
-            Err(_) => {
-                self.faults = self.faults.saturating_add(1);
-                Err(Failed)
-            }
-        }
+        let given = self.inner.read(buf);
+        let (answer, faults) = read_answer(given, self.faults);
+        self.faults = faults;
+        answer
+    }
+}
+
+// What the source answers to what its reader gave, and its count of faults behind that.
+fn read_answer(given: io::Result<usize>, faults: u64) -> (Result<usize, Failed>, u64)
+    ensures { IsReadAnswer given faults result.0 result.1 }
+{
+    match given {
+        Ok(count) => (Ok(count), faults),
+        Err(_) => (Err(Failed), faults.saturating_add(1)),
     }
 }

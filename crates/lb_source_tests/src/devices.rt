@@ -1,164 +1,120 @@
 // Accesses of devices.
-use crate::row::{LAMP, accesses, agrees, undefined};
-use crate::sketch::Line::{self, Read, Write};
-use crate::sketch::Term::{self, Bin, Load, Num, Var};
-use lb_source::{Reason, SourceEnd};
-use lb_syntax::{Op, Width};
-use lb_trace::Event;
-use std::test::Fail;
 
-const TO_LAMP: Term<'static> = Num(LAMP);
+/// The programs, in the form that `programs` reads.
+pub static PROGRAMS: &str = "\
+no multiple of 4
+9
+fn init() { MMIOWRITE(0x10012002, 0); }
+fn loop() { }
 
-// MMIOWRITE(0x10012002, 0);
-const UNALIGNED: &[Line<'static>] = &[Write(Num(0x1001_2002), Num(0))];
-// MMIOWRITE(0x10013000, 0);
-const BEHIND_THE_FIRST: &[Line<'static>] = &[Write(Num(0x1001_3000), Num(0))];
-// MMIOWRITE(0x10011FFC, 0);
-const BEFORE_THE_FIRST: &[Line<'static>] = &[Write(Num(0x1001_1FFC), Num(0))];
-// x = MMIOREAD(0x10023FFC);
-const BEFORE_THE_SECOND: &[Line<'static>] = &[Read(b"x", Num(0x1002_3FFC))];
-// x = MMIOREAD(0x10025000);
-const BEHIND_THE_SECOND: &[Line<'static>] = &[Read(b"x", Num(0x1002_5000))];
-// x = MMIOREAD(0x10025001);
-const NEITHER: &[Line<'static>] = &[Read(b"x", Num(0x1002_5001))];
-// MMIOWRITE(1, x);
-const VALUE_BEFORE_THE_ADDRESS: &[Line<'static>] = &[Write(Num(1), Var(b"x"))];
-// MMIOWRITE(load1(0), x);
-const ADDRESS_BEFORE_THE_VALUE: &[Line<'static>] = &[Write(Load(Width::One, &Num(0)), Var(b"x"))];
+Undefined(Unaligned)
 
-#[test]
-fn refuses_addresses(rt: HostRuntime) -> Result<(), Fail> {
-    let rows = [
-        undefined(UNALIGNED, Reason::Unaligned),
-        undefined(BEHIND_THE_FIRST, Reason::OutOfRange),
-        undefined(BEFORE_THE_FIRST, Reason::OutOfRange),
-        undefined(BEFORE_THE_SECOND, Reason::OutOfRange),
-        undefined(BEHIND_THE_SECOND, Reason::OutOfRange),
-        undefined(NEITHER, Reason::Unaligned),
-        undefined(VALUE_BEFORE_THE_ADDRESS, Reason::UnsetVariable),
-        undefined(ADDRESS_BEFORE_THE_VALUE, Reason::NotOwned),
-    ];
-    for (i, row) in rows.iter().enumerate() {
-        assert!(rt; agrees(rt.alloc(), row)?, "row {i}");
-    }
-    Ok(())
-}
+behind the first device
+9
+fn init() { MMIOWRITE(0x10013000, 0); }
+fn loop() { }
 
-// MMIOWRITE(0x10012FFC, 0);
-const LAST_OF_THE_FIRST: &[Line<'static>] = &[Write(Num(0x1001_2FFC), Num(0))];
-// x = MMIOREAD(0x10012000); y = MMIOREAD(0x10024FFC); MMIOWRITE(0x10024000, (x - y));
-const ENDS: &[Line<'static>] = &[
-    Read(b"x", Num(0x1001_2000)),
-    Read(b"y", Num(0x1002_4FFC)),
-    Write(Num(0x1002_4000), Bin(Op::Sub, &Var(b"x"), &Var(b"y"))),
-];
+Undefined(OutOfRange)
 
-const LAST_WRITTEN: &[Event] = &[Event::St {
-    addr: 0x1001_2FFC,
-    value: 0,
-}];
+before the first device
+9
+fn init() { MMIOWRITE(0x10011FFC, 0); }
+fn loop() { }
 
-const ENDS_REACHED: &[Event] = &[
-    Event::Ld {
-        addr: 0x1001_2000,
-        value: 5,
-    },
-    Event::Ld {
-        addr: 0x1002_4FFC,
-        value: 7,
-    },
-    Event::St {
-        addr: 0x1002_4000,
-        value: 0xFFFF_FFFE,
-    },
-];
+Undefined(OutOfRange)
 
-#[test]
-fn reaches_both_devices(rt: HostRuntime) -> Result<(), Fail> {
-    let rows = [
-        accesses(
-            LAST_OF_THE_FIRST,
-            &[],
-            9,
-            &[],
-            LAST_WRITTEN,
-            SourceEnd::Spent,
-        ),
-        accesses(ENDS, &[], 9, &[5, 7, 9], ENDS_REACHED, SourceEnd::Spent),
-    ];
-    for (i, row) in rows.iter().enumerate() {
-        assert!(rt; agrees(rt.alloc(), row)?, "row {i}");
-    }
-    Ok(())
-}
+before the second device
+9
+fn init() { x = MMIOREAD(0x10023FFC); }
+fn loop() { }
 
-// MMIOWRITE(LAMP, 1);
-const ONE: &[Line<'static>] = &[Write(TO_LAMP, Num(1))];
-// x = MMIOREAD(0x10024048);
-const ASKS: &[Line<'static>] = &[Read(b"x", Num(0x1002_4048))];
-// MMIOWRITE(LAMP, (7 / 0)); MMIOWRITE(LAMP, (7 % 0));
-const BY_ZERO: &[Line<'static>] = &[
-    Write(TO_LAMP, Bin(Op::Divu, &Num(7), &Num(0))),
-    Write(TO_LAMP, Bin(Op::Remu, &Num(7), &Num(0))),
-];
+Undefined(OutOfRange)
 
-const ZERO_READ: &[Event] = &[Event::Ld {
-    addr: 0x1002_4048,
-    value: 0,
-}];
+behind the second device
+9
+fn init() { x = MMIOREAD(0x10025000); }
+fn loop() { }
 
-const ONE_TWICE: &[Event] = &[
-    Event::St {
-        addr: LAMP,
-        value: 1,
-    },
-    Event::St {
-        addr: LAMP,
-        value: 1,
-    },
-];
+Undefined(OutOfRange)
 
-const QUOTIENT_AND_REMAINDER: &[Event] = &[
-    Event::St {
-        addr: LAMP,
-        value: 0xFFFF_FFFF,
-    },
-    Event::St {
-        addr: LAMP,
-        value: 7,
-    },
-];
+behind the second device and no multiple of 4
+9
+fn init() { x = MMIOREAD(0x10025001); }
+fn loop() { }
 
-const ZERO: &[u32] = &[0];
+Undefined(Unaligned)
 
-#[test]
-fn asks_for_replies(rt: HostRuntime) -> Result<(), Fail> {
-    let rows = [
-        accesses(ASKS, ASKS, 400_000, ZERO, ZERO_READ, SourceEnd::Starved),
-        accesses(ASKS, ASKS, 1, ZERO, ZERO_READ, SourceEnd::Spent),
-        accesses(ASKS, ASKS, 9, &[], &[], SourceEnd::Starved),
-    ];
-    for (i, row) in rows.iter().enumerate() {
-        assert!(rt; agrees(rt.alloc(), row)?, "row {i}");
-    }
-    Ok(())
-}
+a value without a value before an address that is refused
+9
+fn init() { MMIOWRITE(1, x); }
+fn loop() { }
 
-#[test]
-fn runs_loop_after_init(rt: HostRuntime) -> Result<(), Fail> {
-    let rows = [
-        accesses(&[], ONE, 3, &[], ONE_TWICE, SourceEnd::Spent),
-        accesses(
-            BY_ZERO,
-            &[],
-            1,
-            &[],
-            QUOTIENT_AND_REMAINDER,
-            SourceEnd::Spent,
-        ),
-    ];
-    for (i, row) in rows.iter().enumerate() {
-        assert!(rt; agrees(rt.alloc(), row)?, "row {i}");
-    }
-    Ok(())
-}
+Undefined(UnsetVariable)
+
+the expression of the address before that of the value
+9
+fn init() { MMIOWRITE(load1(0), x); }
+fn loop() { }
+
+Undefined(NotOwned)
+
+the last word of the first device
+9
+fn init() { MMIOWRITE(0x10012FFC, 0); }
+fn loop() { }
+
+st 10012ffc 00000000
+Spent
+
+the ends of both devices, and a reply that is left over
+9 5 7 9
+fn init() { x = MMIOREAD(0x10012000); y = MMIOREAD(0x10024FFC); MMIOWRITE(0x10024000, (x - y)); }
+fn loop() { }
+
+ld 10012000 00000005
+ld 10024ffc 00000007
+st 10024000 fffffffe
+Spent
+
+a reply is wanted, and none is left
+400000 0
+fn init() { x = MMIOREAD(0x10024048); }
+fn loop() { x = MMIOREAD(0x10024048); }
+
+ld 10024048 00000000
+Starved
+
+fuel is wanted before the reply, and none is left
+1 0
+fn init() { x = MMIOREAD(0x10024048); }
+fn loop() { x = MMIOREAD(0x10024048); }
+
+ld 10024048 00000000
+Spent
+
+no reply at all
+9
+fn init() { x = MMIOREAD(0x10024048); }
+fn loop() { x = MMIOREAD(0x10024048); }
+
+Starved
+
+`loop` is called again and again
+3
+fn init() { }
+fn loop() { MMIOWRITE(0x1001200C, 1); }
+
+st 1001200c 00000001
+st 1001200c 00000001
+Spent
+
+a quotient and a remainder by 0
+1
+fn init() { MMIOWRITE(0x1001200C, (7 / 0)); MMIOWRITE(0x1001200C, (7 % 0)); }
+fn loop() { }
+
+st 1001200c ffffffff
+st 1001200c 00000007
+Spent
+
+";

@@ -1,4 +1,5 @@
-//! Worked examples of the source language, run by its interpreter: what no clause of it says. It has tests alone.
+//! Worked examples of the source language, run by its interpreter: what no clause of it says.
+//! It has tests alone.
 #![tactic(auto)]
 
 #[cfg(test)]
@@ -10,8 +11,4 @@ mod memory;
 #[cfg(test)]
 mod order;
 #[cfg(test)]
-mod row;
-#[cfg(test)]
-mod sketch;
-#[cfg(test)]
-mod three;
+mod programs;

@@ -1,0 +1,5 @@
+//! Inputs and their sections. It has tests alone.
+#![tactic(auto)]
+
+#[cfg(test)]
+mod rows;
