@@ -1,5 +1,9 @@
-pub mod AnswerLemmas
-pub mod HeadlineLemmas
-pub mod ReasonLemmas
-pub mod RequestLemmas
+pub mod AskLemmas
+pub mod IsaLemmas
+pub mod LineLemmas
+pub mod QuestionLemmas
+pub mod ReportLemmas
+pub mod SectionBounds
 pub mod SizeLemmas
+pub mod SourceLemmas
+pub mod TopLemmas

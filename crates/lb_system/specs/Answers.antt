@@ -1,29 +1,78 @@
 -- What the top call owes to its caller.
-use Rattle.std.specs.Prelude.{◌≡◌, ℕ, ◌+◌, ◌*◌, ◌≤◌, ◌⊎◌, List, [], length, map, Some, None}
+use Rattle.std.specs.Prelude.{◌≡◌, ℕ, ◌≤◌, ◌<◌, ◌⊎◌, Bool, true, false, List, [], length, Some, None}
 use Rattle.std.specs.declared.option.Option.{Option}
 use Rattle.std.specs.Io.KnownBytes.{Appends}
-use Rattle.lb_ports.specs.Bytes.{ReadsAll, ReadsUpTo, ReadsMoreThan, AppendsPrefix}
+use Rattle.lb_ports.specs.Bytes.{ReadsAll, ReadsUpTo, AppendsPrefix}
 use Rattle.lb_ports.specs.Faults.{Rose}
 use Rattle.lb_syntax.specs.Names.{Text}
 use Rattle.lb_syntax.specs.Tree.{Procedure}
-use Rattle.lb_syntax.specs.Needs.{code_need, variables, greatest_depth}
 use Rattle.lb_syntax.specs.Calls.{IsStackNeed}
 use Rattle.lb_syntax.specs.Rules.{KeepsRules}
-use Rattle.lb_syntax.specs.Layouts.{IsValidLayout}
 use Rattle.lb_syntax.specs.Printing.{program_text}
-use Rattle.lb_syntax.specs.declared.layout.Layout.{Layout}
-use Rattle.lb_spelling.specs.Places.{IsAccepted, IsFault}
-use Rattle.lb_check.specs.Verdict.{IsFirstFault}
-use Rattle.lb_check.specs.declared.fault.CheckFault.{CheckFault}
-use Rattle.lb_small.specs.declared.instr.SmallInstr.{SmallInstr}
-use Rattle.lb_small.specs.Ranges.{AreInRange}
-use Rattle.lb_small_code.specs.Correct.{Follows, Reaches}
-use Rattle.lb_small_code.specs.Part.{IsInPart}
+use Rattle.lb_image.specs.declared.image.Image.{Image}
+use Rattle.lb_image.specs.Images.{IsImage, image_bytes}
+use Rattle.lb_correctness.specs.Images.{IsCompiled}
+use Rattle.lb_sections.specs.Sections.{section}
+use Rattle.lb_words.specs.declared.job.Job.{Job}
+use Rattle.lb_words.specs.declared.job.Mode.{Mode}
+use Rattle.lb_words.specs.declared.job.Mode.TheVariants as mode
 use Rattle.lb_system.specs.declared.fault.Fault.{Fault}
 use Rattle.lb_system.specs.declared.fault.Fault.TheVariants as fault
-use Rattle.lb_system.specs.Request.{Job, Checks, Prints, Runs, IsRequest, AreInForm, AskToRun}
-use Rattle.lb_system.specs.Report.{check_report, run_report}
-use Rattle.lb_system.specs.Faults.{IsLimit, fault_line}
+use Rattle.lb_system.specs.declared.fault.FormFault.TheVariants as form
+use Rattle.lb_system.specs.declared.top.Ended.{Ended}
+use Rattle.lb_system.specs.Request.{IsRequest}
+use Rattle.lb_system.specs.Report.{check_report, list_report}
+use Rattle.lb_system.specs.RunReport.{interp_report, isa_report}
+use Rattle.lb_system.specs.Faults.{fault_line}
+use Rattle.lb_system.specs.Views.{View, alone, with_image, shown_by}
+use Rattle.lb_system.specs.Questions.{Case, Question, OfProgram, SaysReplies, Tells, AllHold, IsCause, asks, is_image, reads}
+
+-- ---- what each mode shows where every answer is yes
+
+-- the program keeps the rules, and the report tells what it asks for
+pub record IsCheckReport (p : List Procedure) (report : Text) : Type 0 where
+  pub rules : KeepsRules p
+  pub stack : ℕ
+  pub need : IsStackNeed p stack
+  pub told : report ≡ check_report p stack
+
+-- what is shown of the source's program: what it asks for, or its canonical text
+abbrev pub ShowsNeeds : View → List Procedure → Type 0
+ShowsNeeds s p = IsCheckReport p s.report × (s ≡ alone s.report)
+
+abbrev pub ShowsText : View → List Procedure → Type 0
+ShowsText s p = s ≡ alone (program_text p)
+
+-- a report over the program's image, and that image
+abbrev pub ShowsImage : (Image → Text) → View → List Procedure → Type 0
+ShowsImage report s p = (i : Image) × IsCompiled p i × (s ≡ with_image (report i) i)
+
+-- the same over the replies that the second section says, too
+abbrev pub ShowsReplied : (List Procedure → List ℕ → Image → Text) → Text → View → Type 0
+ShowsReplied report input s =
+    (replies : List ℕ) × SaysReplies (section 1 input) replies
+    × OfProgram input (λ p. ShowsImage (report p replies) s p)
+
+-- the listing of an image, or of the image of the source's program
+abbrev pub ShowsListing : Bool → Text → View → Type 0
+ShowsListing true input s =
+    (i : Image) × IsImage i × (input ≡ image_bytes i) × (s ≡ alone (list_report i))
+ShowsListing false input s = OfProgram input (ShowsImage list_report s)
+
+-- what each mode shows of its input
+abbrev pub ModeShows : Mode → Job → Text → View → Type 0
+ModeShows mode.Check job input s = OfProgram input (ShowsNeeds s)
+ModeShows mode.Print job input s = OfProgram input (ShowsText s)
+ModeShows mode.Compile job input s = OfProgram input (ShowsImage image_bytes s)
+ModeShows mode.List job input s = ShowsListing (is_image input) input s
+ModeShows mode.Interp job input s = ShowsReplied (interp_report job) input s
+ModeShows mode.Isa job input s = ShowsReplied (λ p. isa_report job) input s
+ModeShows _ job input s = ⊥
+
+abbrev pub Shows : Job → Text → View → Type 0
+Shows job input s = ModeShows job.mode job input s
+
+-- ---- the input
 
 -- bytes that are known or not
 abbrev pub Known : Type 0
@@ -33,127 +82,100 @@ Known = Option (List ℕ)
 abbrev pub most_input : ℕ
 most_input = 1048576
 
--- the words ask for this, and this is the whole input, which isn't too long
-pub record IsTask (words : List Text) (old new : Known) (job : Job) (text : Text) : Type 0 where
-  pub asked : IsRequest words job
-  pub read : ReadsAll old new text
-  pub short : length text ≤ most_input
+-- a source or a sink before and after a call: what is known of its bytes, and its count of faults
+pub record Port : Type 0 where
+  pub old : Known
+  pub new : Known
+  pub before : ℕ
+  pub after : ℕ
 
--- the job is one that checks the program's rules
-abbrev pub ChecksRules : Job → Type 0
-ChecksRules Checks = Unit {0}
-ChecksRules Prints = ⊥
-ChecksRules (Runs n replies) = Unit {0}
+abbrev pub port : {S : Type 0} → (S → Known) → (S → ℕ) → S → S → Port
+port known faults old new = record {
+  old = known old;
+  new = known new;
+  before = faults old;
+  after = faults new;
+}
 
--- the job is to run the program
-abbrev pub IsRun : Job → Type 0
-IsRun Checks = ⊥
-IsRun Prints = ⊥
-IsRun (Runs n replies) = Unit {0}
+-- the count of faults rose
+abbrev pub Failed : Port → Type 0
+Failed p = Rose p.before p.after
 
--- the first rule that the program breaks is none of those on what it may ask for
-pub record BreaksRule (job : Job) (p : List Procedure) (f : CheckFault) : Type 0 where
-  pub checked : ChecksRules job
-  pub broken : ¬ (KeepsRules p)
-  pub first : IsFirstFault p f
-  pub no_limit : ¬ (IsLimit f)
+-- the input is all that was left; or there is none, and nothing was read
+abbrev pub IsRead : Bool → Port → Text → Type 0
+IsRead true source input = ReadsAll source.old source.new input
+IsRead false source input = (source.new ≡ source.old) × (input ≡ [])
 
--- the first rule that the program breaks is one on what it may ask for
-pub record BreaksLimit (job : Job) (p : List Procedure) (f : CheckFault) : Type 0 where
-  pub checked : ChecksRules job
-  pub broken : ¬ (KeepsRules p)
-  pub first : IsFirstFault p f
-  pub limit : IsLimit f
+-- the same, from what is known before the call
+abbrev pub IsLeft : Bool → Known → Text → Type 0
+IsLeft true left input = left ≡ Some input
+IsLeft false left input = input ≡ []
 
--- a program that keeps the rules is to be run, and it isn't one of those that are compiled so far
-pub record IsOutsidePart (job : Job) (p : List Procedure) : Type 0 where
-  pub run : IsRun job
-  pub rules : KeepsRules p
-  pub outside : ¬ (IsInPart p)
+-- the words ask for the job of the case, its input is the one that was read and isn't too long, and
+-- its image is shown
+pub record IsCase (words : List Text) (source : Port) (image : Option Image) (c : Case)
+    : Type 0 where
+  pub asked : IsRequest words c.job
+  pub read : IsRead (reads c.job) source c.input
+  pub short : length c.input ≤ most_input
+  pub shown : c.image ≡ image
 
--- why the job can't be done for this program; want of memory has no cause
-abbrev pub IsProblem : Job → List Procedure → Fault → Type 0
-IsProblem job p (fault.Check f) = BreaksRule job p f
-IsProblem job p (fault.Limit f) = BreaksLimit job p f
-IsProblem job p fault.Unbuilt = IsOutsidePart job p
-IsProblem job p fault.Memory = Unit {0}
-IsProblem job p _ = ⊥
+-- the same, where the source tells its bytes and doesn't fail
+pub record IsKnownCase (words : List Text) (source : Port) (image : Option Image) (c : Case)
+    : Type 0 where
+  pub asked : IsRequest words c.job
+  pub told : IsLeft (reads c.job) source.old c.input
+  pub short : length c.input ≤ most_input
+  pub steady : ¬ (Failed source)
+  pub shown : c.image ≡ image
 
--- why the job can't be done for this text: it is no program's text or opens too many brackets, and this is the place where it fails; or
--- it is a program's, and this program has a problem
-abbrev pub IsCause : Job → Text → Fault → Type 0
-IsCause job text (fault.Text f) = IsFault text f
-IsCause job text fault.Memory = Unit {0}
-IsCause job text f = (p : List Procedure) × IsAccepted p text × IsProblem job p f
+-- the words ask for a job that has an input
+abbrev pub AskForInput : List Text → Type 0
+AskForInput words = (job : Job) × IsRequest words job × (reads job ≡ true)
 
--- the fault is one of what was read
-abbrev pub IsOfText : Fault → Type 0
-IsOfText (fault.Text _) = Unit {0}
-IsOfText (fault.Check _) = Unit {0}
-IsOfText (fault.Limit _) = Unit {0}
-IsOfText fault.Unbuilt = Unit {0}
-IsOfText _ = ⊥
+-- the words ask for one, and the source tells more bytes than there may be and doesn't fail
+pub record IsTooMuch (words : List Text) (source : Port) (bytes : Text) : Type 0 where
+  pub asked : AskForInput words
+  pub told : source.old ≡ Some bytes
+  pub long : most_input < length bytes
+  pub steady : ¬ (Failed source)
 
--- what was asked for and what was read are the cause of the fault
-abbrev pub HasCause : List Text → Known → Known → Fault → Type 0
-HasCause words old new f = (job : Job) × (text : Text) × IsTask words old new job text × IsCause job text f
+-- ---- faults
 
 -- a read of the input failed: part of it was read, and the count of the source's faults rose
-abbrev pub ReadFails : Known → Known → ℕ → ℕ → Type 0
-ReadFails old new before now = ReadsUpTo old new most_input × Rose before now
+abbrev pub ReadFails : Port → Type 0
+ReadFails source = ReadsUpTo source.old source.new most_input × Failed source
 
--- why there is no report: each fault and what it tells of the words and of the reading
-abbrev pub IsReason : List Text → Known → Known → ℕ → ℕ → Fault → Type 0
-IsReason words old new before now fault.Usage = ¬ (AreInForm words)
-IsReason words old new before now fault.Read = AreInForm words × ReadFails old new before now
-IsReason words old new before now fault.TooLong = AreInForm words × ReadsMoreThan old new most_input
-IsReason words old new before now fault.Memory = ReadsUpTo old new most_input
-IsReason words old new before now fault.Write = ⊥
-IsReason words old new before now f = HasCause words old new f
+-- the fault is one of the input that was read
+abbrev pub IsOfInput : Fault → Type 0
+IsOfInput (fault.Text _) = Unit {0}
+IsOfInput (fault.Check _) = Unit {0}
+IsOfInput (fault.Limit _) = Unit {0}
+IsOfInput (fault.Form _) = Unit {0}
+IsOfInput _ = ⊥
 
--- no code and no frames
-abbrev pub AreNone : List SmallInstr → Layout → Type 0
-AreNone code layout = (code ≡ []) × (layout.frames ≡ [])
+-- the words and what was read are a case in which the fault tells of the first question whose answer
+-- is no
+abbrev pub HasCause : List Text → Port → Option Image → Fault → Type 0
+HasCause words source image f = (c : Case) × IsCase words source image c × IsCause c f
 
--- code and a layout that a program may have: no more words than it asks for, and frames of 4 bytes for each variable and
--- for each level of the function's deepest expression
-pub record IsCodeOf (p : List Procedure) (code : List SmallInstr) (layout : Layout) : Type 0 where
-  pub least : 1 ≤ length code
-  pub most : length code ≤ code_need p
-  pub in_range : AreInRange code
-  pub valid : IsValidLayout layout p
-  pub slots : map (λ frame. frame.size) layout.frames ≡ map (λ f. 4 * (variables f + greatest_depth f.body)) p
+-- an image is shown with a fault only where an entry of a log can't be fired on it
+abbrev pub FitsImage : Fault → Option Image → Type 0
+FitsImage (fault.Form (form.Event at)) image = Unit {0}
+FitsImage _ image = image ≡ None
 
--- the program keeps the rules, is one of those that are compiled so far, and these are its code and its layout; where it does nothing
--- undefined, every run of the code does what it does, and comes as far
-pub record IsBuilt (p : List Procedure) (code : List SmallInstr) (layout : Layout) : Type 0 where
-  pub rules : KeepsRules p
-  pub part : IsInPart p
-  pub compiled : IsCodeOf p code layout
-  pub follows : Follows p layout code
-  pub reaches : Reaches p layout code
+-- without a report nothing else is shown
+pub record ShowsNothing (e : Ended) (f : Fault) : Type 0 where
+  pub image : FitsImage f e.image
+  pub log : e.log.items ≡ []
 
--- the program keeps the rules, and the report tells what it asks for
-pub record IsCheckReport (p : List Procedure) (report : Text) : Type 0 where
-  pub rules : KeepsRules p
-  pub stack : ℕ
-  pub need : IsStackNeed p stack
-  pub told : report ≡ check_report p stack
+-- the answer is this, or there was no memory
+abbrev pub UnlessMemory : Option Fault → Type 0 → Type 0
+UnlessMemory told P = (told ≡ Some fault.Memory) ⊎ P
 
--- what the job makes of a program: a report, and the code that was run, where it is to be run
-abbrev pub IsMade : Job → List Procedure → List SmallInstr → Layout → Text → Type 0
-IsMade Checks p code layout report = IsCheckReport p report × AreNone code layout
-IsMade Prints p code layout report = (report ≡ program_text p) × AreNone code layout
-IsMade (Runs n replies) p code layout report = IsBuilt p code layout × (report ≡ run_report code replies n)
-
--- the report of what was asked for on what was read
-pub record IsReport (words : List Text) (old new : Known) (code : List SmallInstr) (layout : Layout) (report : Text) : Type 0 where
-  pub job : Job
-  pub text : Text
-  pub program : List Procedure
-  pub task : IsTask words old new job text
-  pub accepted : IsAccepted program text
-  pub made : IsMade job program code layout report
+-- the fault tells of this question
+abbrev pub TellsOf : Case → Question → Option Fault → Type 0
+TellsOf c q told = (f : Fault) × (told ≡ Some f) × Tells c q f
 
 -- there is a report: there is no fault, or but the report's write was refused
 abbrev pub HasReport : Option Fault → Type 0
@@ -161,28 +183,41 @@ HasReport None = Unit {0}
 HasReport (Some fault.Write) = Unit {0}
 HasReport (Some _) = ⊥
 
--- code was run
-abbrev pub HasRun : List Text → Option Fault → Type 0
-HasRun words f = HasReport f × AskToRun words
-
 -- the answer shows that the words are in form; want of memory may come before that is known
 abbrev pub ShowsForm : Option Fault → Type 0
 ShowsForm (Some fault.Usage) = ⊥
 ShowsForm (Some fault.Memory) = ⊥
 ShowsForm _ = Unit {0}
 
+-- ---- what is shown and written
+
+-- in the case of the words and what was read all the answers are yes, and this is what is shown of it
+pub record IsReport (words : List Text) (source : Port) (s : View) : Type 0 where
+  pub it : Case
+  pub case : IsCase words source s.image it
+  pub all : AllHold it (asks it)
+  pub shows : Shows it.job it.input s
+
 -- the text was written whole, or a part of it, and then the count of the sink's faults rose
-abbrev pub IsWrittenOrCut : Known → Known → ℕ → ℕ → Text → Type 0
-IsWrittenOrCut old new before now text = Appends old new text ⊎ (AppendsPrefix old new text × Rose before now)
+abbrev pub IsWrittenOrCut : Port → Text → Type 0
+IsWrittenOrCut sink text =
+    Appends sink.old sink.new text ⊎ (AppendsPrefix sink.old sink.new text × Failed sink)
 
 -- the line of a fault was written, or a part of it
-abbrev pub WritesLine : Known → Known → ℕ → ℕ → Option Fault → Type 0
-WritesLine old new before now None = Unit {0}
-WritesLine old new before now (Some fault.Write) = Unit {0}
-WritesLine old new before now (Some f) = IsWrittenOrCut old new before now (fault_line f)
+abbrev pub WritesLine : Port → Option Fault → Type 0
+WritesLine sink None = Unit {0}
+WritesLine sink (Some fault.Write) = Unit {0}
+WritesLine sink (Some f) = IsWrittenOrCut sink (fault_line f)
 
--- the report was written whole where there is no fault, and a part of it where its write was refused
-abbrev pub WritesReport : Known → Known → ℕ → ℕ → Option Fault → Text → Type 0
-WritesReport old new before now None report = Appends old new report
-WritesReport old new before now (Some fault.Write) report = AppendsPrefix old new report × Rose before now
-WritesReport old new before now (Some _) report = ⊥
+-- the report was written whole where there is no fault, and the sink's count stands; a part of it where
+-- its write was refused, and then the count rose
+abbrev pub WritesReport : Port → Option Fault → Text → Type 0
+WritesReport sink None report = Appends sink.old sink.new report × (sink.after ≡ sink.before)
+WritesReport sink (Some fault.Write) report = AppendsPrefix sink.old sink.new report × Failed sink
+WritesReport sink (Some _) report = ⊥
+
+-- what a call that ended so shows is the report of what was asked for on what was read, and its text
+-- was written
+abbrev pub IsReported : List Text → Port → Port → Ended → Type 0
+IsReported words source sink e =
+    (text : Text) × IsReport words source (shown_by e text) × WritesReport sink e.fault text

@@ -5,6 +5,12 @@ use Rattle.lb_spelling.specs.declared.fault.TextKind.{TextKind}
 use Rattle.lb_spelling.specs.declared.fault.TextKind.TheVariants as kind
 use Rattle.lb_check.specs.declared.fault.CheckFault.{CheckFault}
 use Rattle.lb_check.specs.declared.fault.CheckFault.TheVariants as rule
+use Rattle.lb_image.specs.declared.error.ImageKind.{ImageKind}
+use Rattle.lb_image.specs.declared.error.ImageKind.TheVariants as image
+use Rattle.lb_lines.specs.declared.fault.LineKind.{LineKind}
+use Rattle.lb_lines.specs.declared.fault.LineKind.TheVariants as line
+use Rattle.lb_system.specs.declared.fault.FormFault.{FormFault}
+use Rattle.lb_system.specs.declared.fault.FormFault.TheVariants as form
 use Rattle.lb_system.specs.declared.fault.Fault.{Fault}
 use Rattle.lb_system.specs.declared.fault.Fault.TheVariants as fault
 
@@ -15,11 +21,11 @@ status_of (Some fault.Usage) = 1
 status_of (Some (fault.Text _)) = 2
 status_of (Some (fault.Check _)) = 3
 status_of (Some (fault.Limit _)) = 4
+status_of (Some (fault.Form _)) = 5
 status_of (Some fault.Read) = 6
 status_of (Some fault.Write) = 7
 status_of (Some fault.TooLong) = 8
 status_of (Some fault.Memory) = 9
-status_of (Some fault.Unbuilt) = 10
 
 -- the rule is one of the three on what a program may ask for
 abbrev pub IsLimit : CheckFault → Type 0
@@ -99,21 +105,46 @@ rule_place (rule.StackNeed bytes) = bytes_part bytes
 abbrev pub rule_text : CheckFault → Text
 rule_text f = rule_word f ++ rule_place f
 
+-- how a line leaves its form, in a word
+abbrev pub line_text : LineKind → Text
+line_text line.Malformed = codes "malformed"
+line_text line.TooLong = codes "too-long"
+line_text line.TooMany = codes "too-many"
+
+-- what is wrong with an image, in a word
+abbrev pub image_text : ImageKind → Text
+image_text image.BadMagic = codes "bad-magic"
+image_text image.BadVersion = codes "bad-version"
+image_text image.BadCode = codes "bad-code"
+image_text image.BadLayout = codes "bad-layout"
+image_text image.Truncated = codes "truncated"
+image_text image.Extra = codes "extra"
+
+-- an input that isn't in form: where, and how
+abbrev pub form_text : FormFault → Text
+form_text (form.Section n) = codes "section line " ++ decimal n
+form_text (form.Line f) = codes "line " ++ (decimal f.line ++ (codes " " ++ line_text f.kind))
+form_text (form.Event at) = codes "event " ++ (decimal at ++ (codes " " ++ codes "guard false"))
+form_text (form.Image f) = codes "image at " ++ (decimal f.at ++ (codes " " ++ image_text f.kind))
+
 -- the line that is written in place of a report; a write that was refused has none
 abbrev pub fault_line : Fault → Text
-fault_line fault.Usage = codes "usage: bulb MODE [--events N] [--workers W] [--seed S] [--log] [--trace]\n"
-fault_line (fault.Text f) = codes "text at " ++ (decimal f.at ++ (codes " " ++ (kind_text f.kind ++ codes "\n")))
+fault_line fault.Usage =
+    codes "usage: bulb MODE [--events N] [--workers W] [--seed S] [--log] [--trace]\n"
+fault_line (fault.Text f) =
+    codes "text at " ++ (decimal f.at ++ (codes " " ++ (kind_text f.kind ++ codes "\n")))
 fault_line (fault.Check f) = codes "check " ++ (rule_text f ++ codes "\n")
 fault_line (fault.Limit f) = codes "limit " ++ (rule_text f ++ codes "\n")
+fault_line (fault.Form f) = form_text f ++ codes "\n"
 fault_line fault.Read = codes "read fault\n"
 fault_line fault.Write = codes ""
 fault_line fault.TooLong = codes "input over 1048576 bytes\n"
 fault_line fault.Memory = codes "memory\n"
-fault_line fault.Unbuilt = codes "not built\n"
 
 -- the line isn't the same at all times, so it takes memory to make it
 abbrev pub TakesMemory : Fault → Type 0
 TakesMemory (fault.Text _) = Unit {0}
 TakesMemory (fault.Check _) = Unit {0}
 TakesMemory (fault.Limit _) = Unit {0}
+TakesMemory (fault.Form _) = Unit {0}
 TakesMemory _ = ⊥

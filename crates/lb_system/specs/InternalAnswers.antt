@@ -1,21 +1,74 @@
 -- What the parts of the top call say. Only contracts of private functions cite it.
-use Rattle.std.specs.Prelude.{◌≡◌, ◌⊎◌, List, Some}
+use Rattle.std.specs.Prelude.{◌≡◌, ◌⊎◌, ℕ, ◌≤◌, List, length, Some, None}
 use Rattle.std.specs.declared.option.Option.{Option}
+use Rattle.lb_ports.specs.Bytes.{ReadsUpTo, ReadsMoreThan}
 use Rattle.lb_syntax.specs.Names.{Text}
 use Rattle.lb_syntax.specs.Tree.{Procedure}
-use Rattle.lb_syntax.specs.declared.layout.Layout.{Layout}
-use Rattle.lb_spelling.specs.Places.{IsAccepted}
+use Rattle.lb_spelling.specs.Places.{IsAccepted, IsFault}
 use Rattle.lb_check.specs.declared.fault.CheckFault.{CheckFault}
-use Rattle.lb_small.specs.declared.instr.SmallInstr.{SmallInstr}
+use Rattle.lb_image.specs.declared.image.Image.{Image}
+use Rattle.lb_image.specs.declared.error.ImageError.{ImageError}
+use Rattle.lb_image.specs.declared.error.ImageError.TheVariants as image
+use Rattle.lb_lines.specs.declared.fault.LineError.{LineError}
+use Rattle.lb_lines.specs.declared.fault.LineError.TheVariants as line
+use Rattle.lb_sections.specs.Sections.{sections}
+use Rattle.lb_sections.specs.declared.cut.SectionsError.{SectionsError}
+use Rattle.lb_sections.specs.declared.cut.SectionsError.TheVariants as cut
+use Rattle.lb_words.specs.declared.job.Job.{Job}
+use Rattle.lb_words.specs.declared.job.Mode.{Mode}
 use Rattle.lb_system.specs.declared.fault.Fault.{Fault}
 use Rattle.lb_system.specs.declared.fault.Fault.TheVariants as fault
-use Rattle.lb_system.specs.Request.{Job}
+use Rattle.lb_system.specs.declared.fault.FormFault.TheVariants as form
+use Rattle.lb_system.specs.declared.answer.Refused.{Refused}
+use Rattle.lb_system.specs.Request.{AreInForm}
 use Rattle.lb_system.specs.Faults.{IsLimit, TakesMemory}
-use Rattle.lb_system.specs.Answers.{IsMade}
+use Rattle.lb_system.specs.Views.{View}
+use Rattle.lb_system.specs.Questions.{Case, Question, questions, mode_questions, source, AllHold, IsCauseOf, BreaksRule, BreaksLimit}
+use Rattle.lb_system.specs.Answers.{Port, Shows, ModeShows, AskForInput, ReadFails, IsOfInput, HasCause, FitsImage, most_input}
 
--- the fault that is answered: the one that was found, or want of memory for its line
-abbrev pub IsTold : Fault → Option Fault → Type 0
-IsTold found told = (told ≡ Some found) ⊎ (TakesMemory found × (told ≡ Some fault.Memory))
+-- the job's case, with this image
+abbrev pub case_of : Job → Text → Option Image → Case
+case_of job input i = record { job = job; input = input; image = i }
+
+-- all the answers are yes, and this is what is shown
+abbrev pub IsAnswer : Job → Text → View → Type 0
+IsAnswer job input s =
+    AllHold (case_of job input s.image) (questions job input) × Shows job input s
+
+-- the same of a mode
+abbrev pub IsModeAnswer : Mode → Job → Text → View → Type 0
+IsModeAnswer m job input s =
+    AllHold (case_of job input s.image) (mode_questions m input) × ModeShows m job input s
+
+-- why there is no answer: want of memory, or the first of the questions whose answer is no
+abbrev pub IsRefusalOf : List Question → Job → Text → Refused → Type 0
+IsRefusalOf qs job input r =
+    ((r.fault ≡ fault.Memory) × (r.image ≡ None))
+    ⊎ (IsOfInput r.fault × IsCauseOf (case_of job input r.image) qs r.fault
+    × FitsImage r.fault r.image)
+
+abbrev pub IsModeRefusal : Mode → Job → Text → Refused → Type 0
+IsModeRefusal m job input r = IsRefusalOf (mode_questions m input) job input r
+
+-- the refusal without an image
+abbrev pub without_image : Fault → Refused
+without_image f = record { fault = f; image = None }
+
+-- why there is no report: each fault and what it tells of the words and of the reading
+abbrev pub IsReason : List Text → Port → Fault → Option Image → Type 0
+IsReason words source fault.Usage i = (¬ (AreInForm words)) × (i ≡ None)
+IsReason words source fault.Read i = AskForInput words × ReadFails source × (i ≡ None)
+IsReason words source fault.TooLong i =
+    AskForInput words × ReadsMoreThan source.old source.new most_input × (i ≡ None)
+IsReason words source fault.Memory i = ReadsUpTo source.old source.new most_input × (i ≡ None)
+IsReason words source fault.Write i = ⊥
+IsReason words source f i = HasCause words source i f × FitsImage f i
+
+-- what is told in place of what was found: the same, or want of memory for its line
+abbrev pub IsTold : Refused → Option Fault → Option Image → Type 0
+IsTold found told i =
+    ((told ≡ Some found.fault) × (i ≡ found.image))
+    ⊎ (TakesMemory found.fault × (told ≡ Some fault.Memory) × (i ≡ None))
 
 -- the fault that a broken rule is
 abbrev pub IsRuleFault : CheckFault → Fault → Type 0
@@ -23,6 +76,39 @@ IsRuleFault f (fault.Check g) = (g ≡ f) × (¬ (IsLimit f))
 IsRuleFault f (fault.Limit g) = (g ≡ f) × IsLimit f
 IsRuleFault f _ = ⊥
 
--- what the job makes of the program whose text this is
-abbrev pub IsAnswer : Job → Text → List SmallInstr → Layout → Text → Type 0
-IsAnswer job text code layout report = (p : List Procedure) × IsAccepted p text × IsMade job p code layout report
+-- the fault of an input that isn't cut, and of bytes that are no image's
+abbrev pub sections_fault : SectionsError → Fault
+sections_fault (cut.TooMany line) = fault.Form (form.Section line)
+sections_fault cut.Memory = fault.Memory
+
+abbrev pub image_fault : ImageError → Fault
+image_fault (image.Fault f) = fault.Form (form.Image f)
+image_fault image.Memory = fault.Memory
+
+-- the fault of lines that aren't in form
+abbrev pub lines_fault : LineError → Fault
+lines_fault (line.Line f) = fault.Form (form.Line f)
+lines_fault line.Memory = fault.Memory
+
+-- the text is the program's alone
+pub record IsOnly (text : Text) (p : List Procedure) : Type 0 where
+  pub accepted : IsAccepted p text
+  pub only : (q : List Procedure) → IsAccepted q text → q ≡ p
+
+-- why a text gives no program
+abbrev pub LeavesGrammar : Text → Fault → Type 0
+LeavesGrammar text fault.Memory = Unit {0}
+LeavesGrammar text (fault.Text f) = IsFault text f
+LeavesGrammar text _ = ⊥
+
+-- why a program isn't in order
+abbrev pub BreaksRules : List Procedure → Fault → Type 0
+BreaksRules p fault.Memory = Unit {0}
+BreaksRules p (fault.Check f) = BreaksRule f p
+BreaksRules p (fault.Limit f) = BreaksLimit f p
+BreaksRules p _ = ⊥
+
+-- the source is read, as the program, and there aren't too many sections
+pub record IsOpened (most : ℕ) (input : Text) (p : List Procedure) : Type 0 where
+  pub few : length (sections input) ≤ most
+  pub text : IsOnly (source input) p

@@ -1,6 +1,9 @@
 pub mod Request
+pub mod Views
 pub mod Report
+pub mod RunReport
 pub mod Faults
+pub mod Questions
 pub mod Answers
 pub mod InternalAnswers
 pub mod Headline

@@ -1,42 +1,39 @@
 -- The reports of the modes.
-use Rattle.std.specs.Prelude.{ℕ, List, ◌++◌, length, codes, decimal}
-use Rattle.lb_trace.specs.TraceText.{trace_text}
-use Rattle.lb_trace.specs.declared.Event.{Event}
+use Rattle.std.specs.Prelude.{ℕ, ◌*◌, List, ◌++◌, length, codes, decimal}
+use Rattle.std.specs.List.{enumerate_from, flat_map}
+use Rattle.lb_trace.specs.Hex.{hex_word}
 use Rattle.lb_syntax.specs.Names.{Text}
 use Rattle.lb_syntax.specs.Tree.{Procedure}
 use Rattle.lb_syntax.specs.Needs.{code_need}
-use Rattle.lb_small.specs.declared.instr.SmallInstr.{SmallInstr}
-use Rattle.lb_small.specs.declared.instr.Cause.{Cause}
-use Rattle.lb_small.specs.declared.instr.Cause.TheVariants.{BadPc, UnknownWord, Ecall, Ebreak, StoreToCode, BadAccess}
-use Rattle.lb_small.specs.declared.runner.Ending.{Ending}
-use Rattle.lb_small.specs.declared.runner.Ending.TheVariants.{Running, WantsReply, Halted}
-use Rattle.lb_small.specs.Runs.{isa, isa_ending}
+use Rattle.lb_syntax.specs.declared.layout.FrameLayout.{FrameLayout}
+use Rattle.lb_rv.specs.Listing.{listing_line}
+use Rattle.lb_image.specs.declared.image.Image.{Image}
 
 -- the line `ok functions F words W stack S`, of a program that asks for this many bytes of stack
 abbrev pub check_report : List Procedure → ℕ → Text
 check_report p stack =
-    codes "ok functions " ++ (decimal (length p) ++ (codes " words " ++ (decimal (code_need p) ++ (codes " stack " ++ (decimal stack ++ codes "\n")))))
+    codes "ok functions " ++ (decimal (length p) ++ (codes " words " ++ (decimal (code_need p)
+    ++ (codes " stack " ++ (decimal stack ++ codes "\n")))))
 
--- the word of a cause
-abbrev pub cause_text : Cause → Text
-cause_text BadPc = codes "bad-pc"
-cause_text UnknownWord = codes "unknown-word"
-cause_text Ecall = codes "ecall"
-cause_text Ebreak = codes "ebreak"
-cause_text StoreToCode = codes "store-to-code"
-cause_text BadAccess = codes "bad-access"
+-- the offset of a site behind a blank
+abbrev pub site_part : ℕ → Text
+site_part offset = codes " " ++ decimal offset
 
--- how a run ended, in words
-abbrev pub ending_text : Ending → Text
-ending_text Running = codes "running"
-ending_text WantsReply = codes "wants-reply"
-ending_text (Halted cause) = codes "halted " ++ cause_text cause
+-- the line `frame SIZE`, with the offset of each site
+abbrev pub frame_line : FrameLayout → Text
+frame_line frame =
+    codes "frame " ++ (decimal frame.size ++ (flat_map site_part frame.sites ++ codes "\n"))
 
--- the lines `mmio M`, `end ENDING` and `trace`, and a line for each event
-abbrev pub report_text : List Event → Ending → Text
-report_text trace ending =
-    codes "mmio " ++ (decimal (length trace) ++ (codes "\nend " ++ (ending_text ending ++ (codes "\ntrace\n" ++ trace_text trace))))
+-- the line of a word, which has this number in the code
+abbrev pub code_line : ℕ × ℕ → Text
+code_line word = listing_line (4 * word.0) word.1
 
--- the report of the run of at most n instructions of the code with these replies
-abbrev pub run_report : List SmallInstr → List ℕ → ℕ → Text
-run_report code replies n = report_text (isa code replies n).trace (isa_ending code replies n)
+-- a line for each word of the code, the first of them at address 0
+abbrev pub code_lines : List ℕ → Text
+code_lines words = flat_map code_line (enumerate_from 0 words)
+
+-- the lines `entry E`, one for each function's frame, and one for each word of the code
+abbrev pub list_report : Image → Text
+list_report i =
+    codes "entry " ++ (hex_word i.entry ++ (codes "\n" ++ (flat_map frame_line i.layout.frames
+    ++ code_lines i.code)))

@@ -1,19 +1,37 @@
 // Why a call ends without a whole report.
 use lb_check::CheckFault;
+use lb_image::ImageFault;
+use lb_lines::LineFault;
 use lb_text::TextFault;
 use std::alloc::AllocError;
+
+/// How an input isn't in form.
+#[derive(Clone, Copy, Debug, PartialEq, Eq)]
+pub enum FormFault {
+    /// It has more sections than the mode; the number of the line that is the first `%%` too
+    /// many, from 1.
+    Section { line: u32 },
+    /// A line of a later section, or of a mode without a source, is outside its form.
+    Line(LineFault),
+    /// An entry of a log can't be fired; its place, from 0. No mode answers it so far.
+    Event { at: u32 },
+    /// It begins as an image, and is none.
+    Image(ImageFault),
+}
 
 /// Why a call ended without a whole report.
 #[derive(Debug, Drop)]
 pub enum Fault {
     /// The words aren't in form.
     Usage,
-    /// The input is no program's text, or opens too many brackets.
+    /// The source is no program's text, or opens too many brackets.
     Text(TextFault),
     /// The program breaks a rule other than those on what it may ask for.
     Check(CheckFault),
-    /// The program asks for too large a frame, too long a branch, too much code, or too much stack.
+    /// The program asks for too large a frame, too much code, or too much stack.
     Limit(CheckFault),
+    /// The input isn't in form.
+    Form(FormFault),
     /// The input couldn't be read.
     Read,
     /// The report couldn't be written whole.
@@ -22,8 +40,6 @@ pub enum Fault {
     TooLong,
     /// No memory is left.
     Memory,
-    /// The program can't be compiled yet.
-    Unbuilt,
 }
 
 impl From<AllocError> for Fault {

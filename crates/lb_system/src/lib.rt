@@ -1,15 +1,21 @@
-//! The whole program as one call: words and a source text in, a report out.
+//! The whole program as one call: words and an input in, a report out.
 #![tactic(auto)]
 
 mod answer;
+mod compiled;
 mod fault;
 mod line;
+mod modes;
 mod report;
 mod request;
+mod run_report;
+mod shown;
+mod source;
 mod top;
 
-pub use fault::Fault;
+pub use fault::{Fault, FormFault};
 pub use lb_check::CheckFault;
-pub use lb_small::{Cause, SmallInstr};
+pub use lb_image::{Image, ImageFault, ImageKind};
+pub use lb_lines::{LineFault, LineKind};
 pub use lb_text::{TextFault, TextKind};
 pub use top::{Ended, plain};

@@ -1,9 +1,11 @@
 // The lines of faults.
 ghost use Rattle.std.specs.Prelude.{◌≡◌, ◌++◌, ℕ, IfSome, IfNone, IfOk, OnOk, codes, decimal};
-ghost use Rattle.lb_system.specs.Faults.{TakesMemory, fault_line, kind_text, rule_word, rule_place, rule_text, function_part, name_part, bytes_part, count_part, words_part};
+ghost use Rattle.lb_system.specs.Faults.{TakesMemory, fault_line, kind_text, line_text, image_text, form_text, rule_word, rule_place, rule_text, function_part, name_part, bytes_part, count_part, words_part};
 
-use crate::fault::Fault;
+use crate::fault::{Fault, FormFault};
 use lb_check::CheckFault;
+use lb_image::{ImageFault, ImageKind};
+use lb_lines::{LineFault, LineKind};
 use lb_syntax::Name;
 use lb_text::{TextFault, TextKind};
 use std::alloc::{AllocError, Global};
@@ -17,12 +19,11 @@ pub fn fixed_line(fault: &Fault) -> Option<&'static [u8]>
         Fault::Usage => Some(
             b"usage: bulb MODE [--events N] [--workers W] [--seed S] [--log] [--trace]\n",
         ),
-        Fault::Text(_) | Fault::Check(_) | Fault::Limit(_) => None,
+        Fault::Text(_) | Fault::Check(_) | Fault::Limit(_) | Fault::Form(_) => None,
         Fault::Read => Some(b"read fault\n"),
         Fault::Write => Some(b""),
         Fault::TooLong => Some(b"input over 1048576 bytes\n"),
         Fault::Memory => Some(b"memory\n"),
-        Fault::Unbuilt => Some(b"not built\n"),
     }
 }
 
@@ -35,13 +36,15 @@ pub fn told_line(alloc: Global, fault: &Fault) -> Result<Vec<u8>, AllocError>
         Fault::Text(fault) => text_line(alloc, *fault),
         Fault::Check(fault) => rule_line(alloc, b"check ", fault),
         Fault::Limit(fault) => rule_line(alloc, b"limit ", fault),
+        Fault::Form(fault) => form_line(alloc, *fault),
         _ => unreachable!(),
     }
 }
 
 // The line `text at A KIND`.
 fn text_line(alloc: Global, fault: TextFault) -> Result<Vec<u8>, AllocError>
-    ensures { IfOk result (λ line. line.items ≡ codes "text at " ++ (decimal fault.at ++ (codes " " ++ (kind_text fault.kind ++ codes "\n")))) }
+    ensures { IfOk result (λ line. line.items
+        ≡ codes "text at " ++ (decimal fault.at ++ (codes " " ++ (kind_text fault.kind ++ codes "\n")))) }
 {
     let place = fault.at;
     let first = format!(in alloc; "text at {place} ")?;
@@ -49,6 +52,72 @@ fn text_line(alloc: Global, fault: TextFault) -> Result<Vec<u8>, AllocError>
     line.extend_from_slice(kind_word(fault.kind))?;
     line.extend_from_slice(b"\n")?;
     Ok(line)
+}
+
+// The line of an input that isn't in form.
+fn form_line(alloc: Global, fault: FormFault) -> Result<Vec<u8>, AllocError>
+    ensures { IfOk result (λ line. line.items ≡ form_text fault ++ codes "\n") }
+{
+    let mut line = Vec::new(alloc);
+    put_form(alloc, &mut line, fault)?;
+    line.extend_from_slice(b"\n")?;
+    Ok(line)
+}
+
+// Where an input isn't in form, and how.
+fn put_form(alloc: Global, line: &mut Vec<u8>, fault: FormFault) -> Result<(), AllocError>
+    ensures { OnOk result (line.new.items ≡ line.old.items ++ form_text fault) }
+{
+    match fault {
+        FormFault::Section { line: at } => put_number(alloc, line, b"section line ", u64::from(at)),
+        FormFault::Line(LineFault { line: at, kind }) => {
+            put_number(alloc, line, b"line ", u64::from(at))?;
+            put_word(line, line_word(kind))
+        }
+        FormFault::Event { at } => {
+            put_number(alloc, line, b"event ", u64::from(at))?;
+            put_word(line, b"guard false")?;
+            Ok(())
+        }
+        FormFault::Image(ImageFault { at, kind }) => {
+            put_number(alloc, line, b"image at ", u64::from(at))?;
+            put_word(line, image_word(kind))
+        }
+    }
+}
+
+// A word behind a blank.
+fn put_word(line: &mut Vec<u8>, word: &[u8]) -> Result<(), AllocError>
+    ensures { OnOk result (line.new.items ≡ line.old.items ++ (codes " " ++ word.now)) }
+{
+    line.extend_from_slice(b" ")?;
+    line.extend_from_slice(word)?;
+    Ok(())
+}
+
+// How a line leaves its form.
+fn line_word(kind: LineKind) -> &'static [u8]
+    ensures { result.now ≡ line_text kind }
+{
+    match kind {
+        LineKind::Malformed => b"malformed",
+        LineKind::TooLong => b"too-long",
+        LineKind::TooMany => b"too-many",
+    }
+}
+
+// What is wrong with an image.
+fn image_word(kind: ImageKind) -> &'static [u8]
+    ensures { result.now ≡ image_text kind }
+{
+    match kind {
+        ImageKind::BadMagic => b"bad-magic",
+        ImageKind::BadVersion => b"bad-version",
+        ImageKind::BadCode => b"bad-code",
+        ImageKind::BadLayout => b"bad-layout",
+        ImageKind::Truncated => b"truncated",
+        ImageKind::Extra => b"extra",
+    }
 }
 
 // The line of a broken rule, which begins so.
@@ -141,7 +210,8 @@ fn put_function(line: &mut Vec<u8>, function: &Name) -> Result<(), AllocError>
 }
 
 fn put_names(line: &mut Vec<u8>, function: &Name, name: &Name) -> Result<(), AllocError>
-    ensures { OnOk result (line.new.items ≡ line.old.items ++ (function_part function.now ++ name_part name.now)) }
+    ensures { OnOk result (line.new.items
+        ≡ line.old.items ++ (function_part function.now ++ name_part name.now)) }
 {
     put_function(line, function)?;
     line.extend_from_slice(b" name ")?;

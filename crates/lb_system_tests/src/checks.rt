@@ -160,7 +160,7 @@ fn tells_needs_and_rules(rt: HostRuntime) -> Result<(), Fail> {
             a.written.as_slice() == line.as_bytes(),
             "written for {input}"
         );
-        assert!(rt; !a.has_code);
+        assert!(rt; !a.has_image);
     }
     Ok(())
 }

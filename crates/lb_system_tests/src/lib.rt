@@ -1,11 +1,9 @@
-//! Worked examples, run through the whole program: modes, reports, runs beside the source's interpreter, limits, faults of
+//! Worked examples, run through the whole program: modes, reports, compiled code beside its source, limits, faults of
 //! ports. It has tests alone.
 #![tactic(auto)]
 
 #[cfg(test)]
 mod adapters;
-#[cfg(test)]
-mod branch_limits;
 #[cfg(test)]
 mod check_limits;
 #[cfg(test)]
@@ -13,11 +11,9 @@ mod checks;
 #[cfg(test)]
 mod compared;
 #[cfg(test)]
-mod compared_loops;
-#[cfg(test)]
 mod lamp;
 #[cfg(test)]
-mod loops;
+mod lists;
 #[cfg(test)]
 mod operations;
 #[cfg(test)]
@@ -25,8 +21,10 @@ mod pieces;
 #[cfg(test)]
 mod prints;
 #[cfg(test)]
-mod reports;
-#[cfg(test)]
 mod run_limits;
 #[cfg(test)]
 mod runs;
+#[cfg(test)]
+mod sections;
+#[cfg(test)]
+mod words;

@@ -79,7 +79,7 @@ fn report(alloc: Global, values: &[u32]) -> Result<Vec<u8>, AllocError> {
         })?;
     }
     let mut text = Vec::new(alloc);
-    text.extend_from_slice(b"mmio 7\nend running\ntrace\n")?;
+    text.extend_from_slice(b"done 5000\nmmio 7\nend running\ntrace\n")?;
     text.extend_from_slice(&print_trace(alloc, &events)?)?;
     Ok(text)
 }
@@ -90,7 +90,10 @@ fn computes_each_operation(rt: HostRuntime) -> Result<(), Fail> {
         let want = report(rt.alloc(), &values)?;
         for literals in [true, false] {
             let text = program(rt.alloc(), sign, literals)?;
-            let a = call_plain(rt.alloc(), &whole(&["bulb", "run", "1000"], &text))?;
+            let a = call_plain(
+                rt.alloc(),
+                &whole(&["bulb", "isa", "--events", "5000", "--trace"], &text),
+            )?;
             assert_eq!(rt; a.status, 0, "of {sign}");
             assert!(rt; a.written.as_slice() == want.as_slice(), "of {sign}");
         }

@@ -42,7 +42,7 @@ fn prints_programs(rt: HostRuntime) -> Result<(), Fail> {
             a.written.as_slice() == text.as_bytes(),
             "written for {input}"
         );
-        assert!(rt; !a.has_code);
+        assert!(rt; !a.has_image);
     }
     Ok(())
 }

@@ -25,7 +25,7 @@ fn assignments(alloc: Global, variables: u32, times: u32) -> Result<Vec<u8>, All
 }
 
 fn status(alloc: Global, text: &[u8]) -> Result<u8, AllocError> {
-    Ok(call_plain(alloc, &whole(&["bulb", "run", "100000"], text))?.status)
+    Ok(call_plain(alloc, &whole(&["bulb", "isa", "--events", "100000"], text))?.status)
 }
 
 #[test]
@@ -44,15 +44,14 @@ fn takes_names_and_numbers_up_to_their_ends(rt: HostRuntime) -> Result<(), Fail>
     Ok(())
 }
 
-// 473 variables and expressions of depth 1 are a frame of 4 * (473 + 1 + 34) = 2,032 bytes.
+// A frame of 4 * (1,000 + 1 + 34) = 4,140 bytes.
 #[test]
-fn builds_frames_up_to_2032_bytes(rt: HostRuntime) -> Result<(), Fail> {
-    let text = assignments(rt.alloc(), 473, 1)?;
-    let a = call_plain(rt.alloc(), &whole(&["bulb", "run", "100000"], &text))?;
+fn builds_large_frames(rt: HostRuntime) -> Result<(), Fail> {
+    let text = assignments(rt.alloc(), 1000, 1)?;
+    let call = whole(&["bulb", "isa", "--events", "100000"], &text);
+    let a = call_plain(rt.alloc(), &call)?;
     assert_eq!(rt; a.status, 0);
-    assert!(rt; a.frames.as_slice() == [4 * (473 + 1), 0].as_slice());
-    let past = assignments(rt.alloc(), 474, 1)?;
-    assert_eq!(rt; status(rt.alloc(), &past)?, 10);
+    assert!(rt; a.written.as_slice() == b"done 100000\nmmio 0\nend running\n".as_slice());
     Ok(())
 }
 
@@ -71,7 +70,7 @@ fn refuses_an_input_that_is_too_long(rt: HostRuntime) -> Result<(), Fail> {
     let text = vec![in rt.alloc(); b' '; 1_048_577]?;
     let call = Call {
         piece: 1_000_000,
-        ..whole(&["bulb", "run", "1"], &text)
+        ..whole(&["bulb", "isa"], &text)
     };
     assert_eq!(rt; call_plain(rt.alloc(), &call)?.status, 8);
     Ok(())

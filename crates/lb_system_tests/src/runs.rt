@@ -1,68 +1,150 @@
-// `run` on texts of any spelling, and words that are no request.
-use lb_testkit::call::{call_plain, whole};
+// What `interp` and `isa` report, and what the modes that compile refuse.
+use crate::lamp::LAMP;
+use lb_testkit::call::{Answer, call_plain, whole};
+use std::alloc::{AllocError, Global};
 use std::test::Fail;
 
-const RUN: [&str; 4] = ["bulb", "run", "1000", "00000005"];
-
-// An input, the status and what is written.
-const TEXTS: [(&str, u8, &str); 11] = [
+// The words behind the program's name, an input, the status and what is written.
+const ROWS: [(&str, &str, u8, &str); 25] = [
     (
-        "fn init() { } fn loop() { }",
+        "interp --events 3 --trace",
+        "fn init() { } fn loop() { MMIOWRITE(0x1001200C, 1); }",
         0,
-        "mmio 0\nend running\ntrace\n",
+        "mmio 2\nend spent\ntrace\nst 1001200c 00000001\nst 1001200c 00000001\n",
     ),
     (
-        "// first\r\nfn init(){MMIOWRITE(0x1001200C,(00007/0));}// then\tfn\nfn loop(){x=MMIOREAD(0x10024048);}//",
+        "interp --trace",
+        "fn init() { x = MMIOREAD(0x10024048); } fn loop() { x = MMIOREAD(0x10024048); }\n%%\n00000000",
         0,
-        "mmio 2\nend wants-reply\ntrace\nst 1001200c ffffffff\nld 10024048 00000005\n",
+        "mmio 1\nend starved\ntrace\nld 10024048 00000000\n",
     ),
-    // `init` runs first, whichever stands first.
     (
-        "fn loop()\n{\n  x = MMIOREAD(268582984);\n}\n\nfn init()\n{\n  MMIOWRITE(268509196, 1);\n  if 1 { } else { }\n}\n",
+        "interp",
+        "fn init() { x = MMIOREAD(0x10024048); } fn loop() { x = MMIOREAD(0x10024048); }\n%%\n00000000",
         0,
-        "mmio 2\nend wants-reply\ntrace\nst 1001200c 00000001\nld 10024048 00000005\n",
+        "mmio 1\nend starved\n",
     ),
     (
-        "fn init() { x = load1(0); } fn loop() { }",
-        10,
-        "not built\n",
+        "interp",
+        "fn init() { y = x; } fn loop() { }",
+        0,
+        "mmio 0\nend undefined unset-variable\n",
     ),
     (
-        "fn init() { if 0 { store2(0, 1); } } fn loop() { }",
-        10,
-        "not built\n",
+        "interp",
+        "fn init() { MMIOWRITE(0x10012002, 0); } fn loop() { }",
+        0,
+        "mmio 0\nend undefined unaligned\n",
     ),
     (
-        "fn loop() { stackalloc 4 as p { } } fn init() { }",
-        10,
-        "not built\n",
+        "interp",
+        "fn init() { MMIOWRITE(0x10013000, 0); } fn loop() { }",
+        0,
+        "mmio 0\nend undefined out-of-range\n",
     ),
     (
-        "fn init() { } fn f(a) -> (a) { } fn loop() { }",
-        10,
-        "not built\n",
+        "interp",
+        "fn init() { MMIOWRITE(0x10012FFC, 0); } fn loop() { }",
+        0,
+        "mmio 1\nend spent\n",
     ),
     (
-        "fn loop() { while 0 { x = f(1); } } fn init() { } fn f(a) -> (a) { }",
-        10,
-        "not built\n",
+        "interp --events 1 --trace",
+        "fn init() { MMIOWRITE(0x1001200C, (7 / 0)); MMIOWRITE(0x1001200C, (7 % 0)); } fn loop() { }",
+        0,
+        "mmio 2\nend spent\ntrace\nst 1001200c ffffffff\nst 1001200c 00000007\n",
     ),
-    // The rules stand before what can be built.
     (
+        "isa --events 100000",
+        "fn init() { MMIOWRITE(0x1001200C, (7 / 0)); MMIOWRITE(0x1001200C, (7 % 0)); } fn loop() { }",
+        0,
+        "done 100000\nmmio 2\nend running\n",
+    ),
+    (
+        "isa --trace --log --events=100000 --workers 3",
+        "fn init() { MMIOWRITE(0x1001200C, (7 / 0)); MMIOWRITE(0x1001200C, (7 % 0)); } fn loop() { }",
+        0,
+        "done 100000\nmmio 2\nend running\ntrace\nst 1001200c ffffffff\nst 1001200c 00000007\n",
+    ),
+    (
+        "interp --events 9",
+        "fn init() { stackalloc 8 as p { store4(p, 1); x = load4((p + 4)); } } fn loop() { }",
+        0,
+        "mmio 0\nend undefined unset-byte\n",
+    ),
+    (
+        "interp --events 9",
+        "fn init() { stackalloc 8 as p { store4(p, 1); store4((p + 4), 2); x = load4((p + 4)); } } fn loop() { }",
+        0,
+        "mmio 0\nend spent\n",
+    ),
+    (
+        "interp --events 9",
+        "fn init() { stackalloc 8 as p { store4(p, 1); x = load4((p + 6)); } } fn loop() { }",
+        0,
+        "mmio 0\nend undefined unset-byte\n",
+    ),
+    (
+        "interp --events 9",
+        "fn init() { stackalloc 8 as p { store4(p, 1); store4((p + 4), 2); x = load4((p + 6)); } } fn loop() { }",
+        0,
+        "mmio 0\nend undefined not-owned\n",
+    ),
+    (
+        "isa",
+        "fn init() { stackalloc 32628 as p { store4((p + 32624), 7); x = load4((p + 32624)); MMIOWRITE(0x1001200C, x); } } fn loop() { }",
+        4,
+        "limit frame-need function init bytes 32784\n",
+    ),
+    (
+        "isa --events 100000 --trace",
+        "fn init() { stackalloc 32608 as p { store4((p + 32604), 7); x = load4((p + 32604)); MMIOWRITE(0x1001200C, x); } } fn loop() { }",
+        0,
+        "done 100000\nmmio 1\nend running\ntrace\nst 1001200c 00000007\n",
+    ),
+    (
+        "isa --events 1",
+        "fn init() { MMIOWRITE(1, 2); } fn loop() { }",
+        0,
+        "done 1\nmmio 0\nend running\n",
+    ),
+    ("interp", "fn init() {", 2, "text at 11 ended\n"),
+    (
+        "isa",
+        "fn init() { } fn loop() { }\n%%\n\n0000000g\n",
+        5,
+        "line 4 malformed\n",
+    ),
+    (
+        "interp",
+        "fn init() { } fn loop() { }\n%%\n00000000\r\n1234567\n",
+        5,
+        "line 4 malformed\n",
+    ),
+    ("interp", "fn init() { }\n%%\nx", 3, "check no-loop\n"),
+    (
+        "isa",
+        "fn init() { } fn loop() { }\n%%\n%%\nx",
+        5,
+        "section line 3\n",
+    ),
+    (
+        "compile",
+        "fn init() { } fn loop() { }\n%%\n",
+        5,
+        "section line 2\n",
+    ),
+    ("compile", "", 3, "check no-init\n"),
+    (
+        "list",
         "fn init() { f(); } fn loop() { } fn f() { f(); }",
         3,
         "check recursion function f\n",
     ),
-    (
-        "fn init() { stackalloc 32632 as p { } } fn loop() { }",
-        4,
-        "limit frame-need function init bytes 32772\n",
-    ),
-    ("fn init() { ( }", 2, "text at 12 unexpected\n"),
 ];
 
 // Words that are no request.
-const WORDS: [&[&str]; 22] = [
+const WORDS: [&[&str]; 21] = [
     &["bulb", ""],
     &["bulb", "run"],
     &["bulb", "Check"],
@@ -75,12 +157,11 @@ const WORDS: [&[&str]; 22] = [
     &["bulb", "check", "x"],
     &["bulb", "check", ""],
     &["bulb", "check", "1"],
-    &["bulb", "check", "--"],
     &["bulb", "print", "print"],
     &["bulb", "print", "1"],
     &["bulb", "Check", "1"],
     &["bulb", "", "check"],
-    &["bulb", "lamp", "1"],
+    &["bulb", "lamp"],
     &["bulb", "run", "run"],
     &["bulb", "run", "01"],
     &["bulb", "run", "--events"],
@@ -89,16 +170,85 @@ const WORDS: [&[&str]; 22] = [
 
 const USAGE: &str = "usage: bulb MODE [--events N] [--workers W] [--seed S] [--log] [--trace]\n";
 
+// What the program answers to words with a blank between them.
+fn answer(alloc: Global, line: &str, input: &[u8]) -> Result<Answer, AllocError> {
+    let mut words = Vec::new(alloc);
+    words.push("bulb")?;
+    for word in line.split(' ') {
+        words.push(word)?;
+    }
+    call_plain(alloc, &whole(&words, input))
+}
+
 #[test]
-fn runs_texts(rt: HostRuntime) -> Result<(), Fail> {
-    for (input, status, written) in TEXTS {
-        let a = call_plain(rt.alloc(), &whole(&RUN, input.as_bytes()))?;
-        assert_eq!(rt; a.status, status, "of {input}");
+fn reports_runs(rt: HostRuntime) -> Result<(), Fail> {
+    for (words, input, status, written) in ROWS {
+        let a = answer(rt.alloc(), words, input.as_bytes())?;
+        assert_eq!(rt; a.status, status, "of {words} {input}");
         assert!(rt;
             a.written.as_slice() == written.as_bytes(),
-            "written for {input}"
+            "written by {words} for {input}"
         );
-        assert_eq!(rt; a.has_code, status == 0, "of {input}");
+        assert_eq!(rt; a.has_image, status == 0, "of {words} {input}");
+    }
+    Ok(())
+}
+
+// How many instructions these take is the compiler's choice.
+#[test]
+fn waits_and_halts(rt: HostRuntime) -> Result<(), Fail> {
+    for (input, ends) in [
+        (
+            "fn init() { x = MMIOREAD(0x10024048); } fn loop() { x = MMIOREAD(0x10024048); }\n%%\n0000000A",
+            "\nmmio 1\nend wants-reply\ntrace\nld 10024048 0000000a\n",
+        ),
+        (
+            "fn init() { x = MMIOREAD(0x90000000); } fn loop() { }",
+            "\nmmio 0\nend halted bad-access\ntrace\n",
+        ),
+        (
+            "fn init() { MMIOWRITE(1, 2); } fn loop() { }",
+            "\nmmio 0\nend halted store-to-code\ntrace\n",
+        ),
+    ] {
+        let a = answer(rt.alloc(), "isa --trace", input.as_bytes())?;
+        assert_eq!(rt; a.status, 0, "of {input}");
+        assert!(rt; a.written.starts_with(b"done "));
+        assert!(rt; a.written.ends_with(ends.as_bytes()), "of {input}");
+    }
+    Ok(())
+}
+
+// The driver polls a chip that never answers: 1,000 reads, and 4 writes.
+#[test]
+fn interprets_the_driver(rt: HostRuntime) -> Result<(), Fail> {
+    let mut input = Vec::from_slice(rt.alloc(), LAMP.as_bytes())?;
+    input.extend_from_slice(b"\n%%\n")?;
+    for _ in 0..1000 {
+        input.extend_from_slice(b"80000000\n")?;
+    }
+    let a = answer(rt.alloc(), "interp --events 2000", &input)?;
+    assert_eq!(rt; a.status, 0);
+    assert!(rt; a.written.as_slice() == b"mmio 1004\nend spent\n".as_slice());
+    Ok(())
+}
+
+// The bytes that `compile` writes are an image, which lists as its source does.
+#[test]
+fn compiles_images_that_list_alike(rt: HostRuntime) -> Result<(), Fail> {
+    for input in [
+        "fn init() { } fn loop() { }",
+        "fn init() { stackalloc 8 as p { store4(p, 1); f(p); } } fn loop() { } fn f(p) { x = load4(p); MMIOWRITE(0x1001200C, x); }",
+        LAMP,
+    ] {
+        let image = answer(rt.alloc(), "compile", input.as_bytes())?;
+        let source = answer(rt.alloc(), "list", input.as_bytes())?;
+        let listed = answer(rt.alloc(), "list", &image.written)?;
+        assert!(rt; image.status == 0 && source.status == 0 && listed.status == 0);
+        assert!(rt; image.written.starts_with(b"LBIM\x01\x00\x00\x00"));
+        assert!(rt; source.written.starts_with(b"entry "));
+        assert!(rt; source.written == listed.written);
+        assert!(rt; image.has_image && source.has_image && !listed.has_image);
     }
     Ok(())
 }

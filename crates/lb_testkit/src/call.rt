@@ -2,7 +2,7 @@
 ghost use Rattle.std.specs.Prelude.{◌≤◌};
 
 use lb_ports::{MemorySink, MemorySource};
-use lb_system::{Ended, plain};
+use lb_system::plain;
 use std::alloc::{AllocError, Global};
 
 /// What the call is handed, and how its source and its sink behave.
@@ -34,10 +34,8 @@ pub struct Answer {
     pub status: u8,
     /// What the sink holds.
     pub written: Vec<u8>,
-    /// Whether code was run.
-    pub has_code: bool,
-    /// The sizes of the code's frames.
-    pub frames: Vec<u32>,
+    /// Whether an image was used.
+    pub has_image: bool,
 }
 
 /// Makes the call.
@@ -45,13 +43,12 @@ pub fn call_plain(alloc: Global, call: &Call<'_>) -> Result<Answer, AllocError> 
     let words = words_of(alloc, call.words)?;
     let mut input = source_of(alloc, call)?;
     let mut sink = sink_of(alloc, call)?;
-    let end = end_of(alloc, &words, &mut input, &mut sink)?;
+    let ended = plain(alloc, &words, &mut input, &mut sink);
     let written = Vec::from_slice(alloc, sink.held())?;
     Ok(Answer {
-        status: end.status,
+        status: ended.status,
         written,
-        has_code: end.has_code,
-        frames: end.frames,
+        has_image: ended.image.is_some(),
     })
 }
 
@@ -73,34 +70,4 @@ fn source_of(alloc: Global, call: &Call<'_>) -> Result<MemorySource, AllocError>
 fn sink_of(alloc: Global, call: &Call<'_>) -> Result<MemorySink, AllocError> {
     let fails = Vec::from_slice(alloc, call.write_fails)?;
     MemorySink::new(alloc, call.room, call.piece.max(1), fails)
-}
-
-// What is kept of how a call ended.
-#[derive(Drop)]
-struct End {
-    status: u8,
-    has_code: bool,
-    frames: Vec<u32>,
-}
-
-fn end_of(
-    alloc: Global,
-    words: &[String],
-    input: &mut MemorySource,
-    sink: &mut MemorySink,
-) -> Result<End, AllocError> {
-    let ended = plain(alloc, words, input, sink);
-    kept(alloc, &ended)
-}
-
-fn kept(alloc: Global, ended: &Ended) -> Result<End, AllocError> {
-    let mut frames = Vec::new(alloc);
-    for frame in ended.layout.frames.as_slice() {
-        frames.push(frame.size)?;
-    }
-    Ok(End {
-        status: ended.status,
-        has_code: !ended.code.is_empty(),
-        frames,
-    })
 }

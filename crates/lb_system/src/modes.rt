@@ -1,0 +1,85 @@
+// What each mode does.
+ghost use Rattle.std.specs.Prelude.{◌≡◌, ◌≤◌, ◌∷◌, ◌++◌, [], ℕ, List, length, IfOk, IfErr, true, false};
+ghost use Rattle.lb_syntax.specs.Tree.{program_of};
+ghost use Rattle.lb_words.specs.declared.job.Mode.TheVariants as mode;
+ghost use Rattle.lb_system.specs.Questions.{listed, AllHold};
+ghost use Rattle.lb_system.specs.Answers.{ShowsListing, most_input};
+ghost use Rattle.lb_system.specs.InternalAnswers.{IsModeAnswer, IsModeRefusal, IsRefusalOf, case_of, image_fault};
+
+use crate::answer::Refused;
+use crate::compiled::list_source;
+use crate::fault::{Fault, FormFault};
+use crate::report::{check_report, list_report};
+use crate::shown::Shown;
+use crate::source::{open_checked, open_read};
+use lb_image::{ImageError, from_bytes};
+use lb_text::print_program;
+use lb_words::Job;
+use std::alloc::Global;
+
+/// Checks the source, and tells what it asks for.
+pub fn check_mode(alloc: Global, job: &Job, input: &[u8]) -> Result<Shown, Refused>
+    requires { length input.now ≤ most_input }
+    ensures made { IfOk result (IsModeAnswer mode.Check job.now input.now) }
+    ensures refused { IfErr result (IsModeRefusal mode.Check job.now input.now) }
+{
+    let (program, _) = match open_checked(alloc, input, 1) {
+        Ok(opened) => opened,
+        Err(refused) => return Err(refused),
+    };
+    let report = check_report(alloc, &program)?;
+    Ok(Shown::alone(alloc, report))
+}
+
+/// Prints the source, and checks nothing but its grammar.
+pub fn print_mode(alloc: Global, job: &Job, input: &[u8]) -> Result<Shown, Refused>
+    requires { length input.now ≤ most_input }
+    ensures made { IfOk result (IsModeAnswer mode.Print job.now input.now) }
+    ensures refused { IfErr result (IsModeRefusal mode.Print job.now input.now) }
+{
+    let (program, _) = match open_read(alloc, input, 1) {
+        Ok(opened) => opened,
+        Err(refused) => return Err(refused),
+    };
+    let report = print_program(alloc, &program)?;
+    Ok(Shown::alone(alloc, report))
+}
+
+/// Lists an image, or the image of the source's program.
+pub fn list_mode(alloc: Global, job: &Job, input: &[u8]) -> Result<Shown, Refused>
+    requires { length input.now ≤ most_input }
+    ensures made { IfOk result (IsModeAnswer mode.List job.now input.now) }
+    ensures refused { IfErr result (IsModeRefusal mode.List job.now input.now) }
+{
+    if input.starts_with(b"LBIM".as_slice()) {
+        list_image(alloc, job, input)
+    } else {
+        list_source(alloc, job, input)
+    }
+}
+
+// Lists an image.
+fn list_image(alloc: Global, job: &Job, input: &[u8]) -> Result<Shown, Refused>
+    ensures made { IfOk result (λ s.
+        AllHold (case_of job.now input.now s.image) (listed true)
+        × ShowsListing true input.now s) }
+    ensures refused { IfErr result (IsRefusalOf (listed true) job.now input.now) }
+{
+    match from_bytes(alloc, input) {
+        Ok(image) => {
+            let report = list_report(alloc, &image)?;
+            Ok(Shown::alone(alloc, report))
+        }
+        Err(error) => Err(Refused::without_image(image_fault(error))),
+    }
+}
+
+// The fault of bytes that are no image's.
+fn image_fault(error: ImageError) -> Fault
+    ensures { result ≡ image_fault error }
+{
+    match error {
+        ImageError::Fault(fault) => Fault::Form(FormFault::Image(fault)),
+        ImageError::Memory => Fault::Memory,
+    }
+}

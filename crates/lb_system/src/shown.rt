@@ -1,0 +1,50 @@
+// What a call shows.
+use lb_image::Image;
+use lb_trace::Entry;
+use std::alloc::Global;
+use std::marker::Model;
+
+/// What a call shows.
+#[derive(Drop)]
+pub struct Shown {
+    pub report: Vec<u8>,
+    /// The machine's log.
+    pub log: Vec<Entry>,
+    /// The image that was used.
+    pub image: Option<Image>,
+}
+
+impl Model for Shown {
+    ghost use Rattle.lb_system.specs.Views.{View};
+
+    ghost Value = { View };
+
+    ghost view = { λ s. record { report = s.report.items; log = s.log.items; image = s.image } };
+}
+
+impl Shown {
+    ghost use Rattle.std.specs.Prelude.{◌≡◌};
+    ghost use Rattle.lb_system.specs.Views.{alone, with_image};
+
+    /// A report and nothing else.
+    pub fn alone(alloc: Global, report: Vec<u8>) -> Shown
+        ensures { result ≡ alone report.items }
+    {
+        Shown {
+            report,
+            log: Vec::new(alloc),
+            image: None,
+        }
+    }
+
+    /// A report over an image.
+    pub fn with_image(alloc: Global, report: Vec<u8>, image: Image) -> Shown
+        ensures { result ≡ with_image report.items image }
+    {
+        Shown {
+            report,
+            log: Vec::new(alloc),
+            image: Some(image),
+        }
+    }
+}

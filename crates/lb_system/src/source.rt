@@ -1,0 +1,172 @@
+// The source of an input, and the sections behind it.
+ghost use Rattle.std.specs.Prelude.{◌≡◌, ◌≤◌, ◌<◌, ◌∷◌, ◌++◌, [], ◌^◌, ℕ, List, length, map, IfOk, OnOk, IfErr, IsTrue, ◌↔◌};
+ghost use Rattle.lb_syntax.specs.Tree.{program_of};
+ghost use Rattle.lb_syntax.specs.Rules.{KeepsRules};
+ghost use Rattle.lb_check.specs.Parts.{parts};
+ghost use Rattle.lb_sections.specs.Sections.{seen, section, sections};
+ghost use Rattle.lb_words.specs.declared.job.Job.{Job};
+ghost use Rattle.lb_system.specs.Faults.{IsLimit};
+ghost use Rattle.lb_system.specs.Questions.{Question, Sections, Grammar, SaysReplies, checked, replied};
+ghost use Rattle.lb_system.specs.Answers.{most_input};
+ghost use Rattle.lb_system.specs.InternalAnswers.{BreaksRules, IsOnly, IsOpened, IsRefusalOf, IsRuleFault, LeavesGrammar, lines_fault, sections_fault};
+
+use crate::answer::Refused;
+use crate::fault::{Fault, FormFault};
+use lb_check::{CheckError, CheckFault, Checked, check};
+use lb_lines::{LineError, read_replies};
+use lb_sections::{Section, SectionsError, section_at, sections_of};
+use lb_syntax::Program;
+use lb_text::{ReadError, read_program};
+use std::alloc::Global;
+
+/// The source, which keeps the rules, and all sections, of which there are at most so many.
+pub fn open_checked<'a>(
+    alloc: Global,
+    input: &'a [u8],
+    most: u32,
+) -> Result<(Checked, Vec<Section<'a>>), Refused>
+    requires short { length input.now ≤ most_input }
+    requires some { 1 ≤ most }
+    ensures opened { IfOk result (λ o. IsOpened most input.now (program_of o.0)) }
+    ensures rules { IfOk result (λ o. KeepsRules (program_of o.0)) }
+    ensures list { IfOk result (λ o. map seen o.1.items ≡ sections input.now) }
+    ensures refused { IfErr result (λ r. (job : Job) (qs : List Question)
+        → IsRefusalOf (Sections most ∷ (checked ++ qs)) job input.now r) }
+{
+    let (program, list) = match open_read(alloc, input, most) {
+        Ok(opened) => opened,
+        Err(refused) => return Err(refused),
+    };
+    match check_rules(alloc, program) {
+        Ok(program) => Ok((program, list)),
+        Err(fault) => Err(Refused::without_image(fault)),
+    }
+}
+
+/// The source, which keeps the rules, and the replies of the section behind it.
+pub fn open_replied(alloc: Global, input: &[u8]) -> Result<(Checked, Vec<u32>), Refused>
+    requires { length input.now ≤ most_input }
+    ensures opened { IfOk result (λ o. IsOpened 2 input.now (program_of o.0)) }
+    ensures rules { IfOk result (λ o. KeepsRules (program_of o.0)) }
+    ensures replies { IfOk result (λ o. SaysReplies (section 1 input.now) o.1.items) }
+    ensures refused { IfErr result (λ r. (job : Job) → IsRefusalOf replied job input.now r) }
+{
+    let (program, list) = match open_checked(alloc, input, 2) {
+        Ok(opened) => opened,
+        Err(refused) => return Err(refused),
+    };
+    let behind = section_at(&list, 1);
+    match read_replies(alloc, behind.text, behind.line) {
+        Ok(replies) => Ok((program, replies)),
+        Err(error) => Err(Refused::without_image(lines_fault(error))),
+    }
+}
+
+// The fault of lines that aren't in form.
+fn lines_fault(error: LineError) -> Fault
+    ensures { result ≡ lines_fault error }
+{
+    match error {
+        LineError::Line(fault) => Fault::Form(FormFault::Line(fault)),
+        LineError::Memory => Fault::Memory,
+    }
+}
+
+/// The source, which need not keep the rules, and all sections, of which there are at most so many.
+pub fn open_read<'a>(
+    alloc: Global,
+    input: &'a [u8],
+    most: u32,
+) -> Result<(Program, Vec<Section<'a>>), Refused>
+    requires short { length input.now ≤ most_input }
+    requires some { 1 ≤ most }
+    ensures opened { IfOk result (λ o. IsOpened most input.now (program_of o.0)) }
+    ensures list { IfOk result (λ o. map seen o.1.items ≡ sections input.now) }
+    ensures small { IfOk result (λ o. parts (program_of o.0) < 2 ^ 30) }
+    ensures refused { IfErr result (λ r. (job : Job) (qs : List Question)
+        → IsRefusalOf (Sections most ∷ Grammar ∷ qs) job input.now r) }
+{
+    let list = match cut(alloc, input, most) {
+        Ok(list) => list,
+        Err(refused) => return Err(refused),
+    };
+    let source = section_at(&list, 0);
+    match read(alloc, source.text) {
+        Ok(program) => Ok((program, list)),
+        Err(fault) => Err(Refused::without_image(fault)),
+    }
+}
+
+/// The sections, of which there are at most so many.
+pub fn cut<'a>(alloc: Global, input: &'a [u8], most: u32) -> Result<Vec<Section<'a>>, Refused>
+    requires short { length input.now ≤ most_input }
+    requires some { 1 ≤ most }
+    ensures list { IfOk result (λ list. map seen list.items ≡ sections input.now) }
+    ensures few { IfOk result (λ list. length (sections input.now) ≤ most) }
+    ensures refused { IfErr result (λ r. (job : Job) (qs : List Question)
+        → IsRefusalOf (Sections most ∷ qs) job input.now r) }
+{
+    match sections_of(alloc, input, most) {
+        Ok(list) => Ok(list),
+        Err(error) => Err(Refused::without_image(sections_fault(error))),
+    }
+}
+
+// The fault of an input that isn't cut.
+fn sections_fault(error: SectionsError) -> Fault
+    ensures { result ≡ sections_fault error }
+{
+    match error {
+        SectionsError::TooMany { line } => Fault::Form(FormFault::Section { line }),
+        SectionsError::Memory => Fault::Memory,
+    }
+}
+
+// The program of a source.
+fn read(alloc: Global, text: &[u8]) -> Result<Program, Fault>
+    requires { length text.now ≤ most_input }
+    ensures read { IfOk result (λ program. IsOnly text.now (program_of program)) }
+    ensures small { IfOk result (λ program. parts (program_of program) < 2 ^ 30) }
+    ensures refused { IfErr result (LeavesGrammar text.now) }
+{
+    match read_program(alloc, text) {
+        Ok(program) => Ok(program),
+        Err(ReadError::Text(fault)) => Err(Fault::Text(fault)),
+        Err(ReadError::Memory) => Err(Fault::Memory),
+    }
+}
+
+// The program, which keeps the rules, or the first that it breaks.
+fn check_rules(alloc: Global, program: Program) -> Result<Checked, Fault>
+    requires { parts (program_of program) < 2 ^ 30 }
+    ensures same { IfOk result (λ c. c ≡ program) }
+    ensures rules { OnOk result (KeepsRules (program_of program)) }
+    ensures refused { IfErr result (BreaksRules (program_of program)) }
+{
+    match check(alloc, program) {
+        Ok(checked) => Ok(checked),
+        Err(CheckError::Fault(fault)) => Err(fault_of(fault)),
+        Err(CheckError::Memory) => Err(Fault::Memory),
+    }
+}
+
+// The fault that a broken rule is.
+fn fault_of(fault: CheckFault) -> Fault
+    ensures { IsRuleFault fault result }
+{
+    if is_limit(&fault) {
+        Fault::Limit(fault)
+    } else {
+        Fault::Check(fault)
+    }
+}
+
+// Whether the rule is one on what a program may ask for.
+fn is_limit(fault: &CheckFault) -> bool
+    ensures { IsTrue result ↔ IsLimit fault.now }
+{
+    matches!(
+        fault,
+        CheckFault::FrameNeed { .. } | CheckFault::CodeNeed { .. } | CheckFault::StackNeed { .. }
+    )
+}
