@@ -14,6 +14,10 @@ import time
 HERE = os.path.dirname(os.path.abspath(__file__))
 ROUNDS = 3
 
+# (the text of the supplied program, for the benches)
+sys.path.append(os.path.join(HERE, "..", "scripts"))
+from shared import supplied
+
 
 class Measured:
     """The best of the runs of one command: seconds, peak memory in bytes, and the first line and the hash of what it printed.
@@ -37,7 +41,7 @@ class Measured:
             _, ended, usage = os.wait4(child.pid, 0)
             seconds = time.perf_counter() - begin
             child.returncode = os.waitstatus_to_exitcode(ended)
-            if child.returncode != status:
+            if status is not None and child.returncode != status:
                 raise SystemExit(f"{' '.join(command)}: status {child.returncode}, not {status}")
             report.seek(0)
             self.first_line = report.readline()
@@ -56,7 +60,7 @@ def hash_of(file):
 
 
 def in_turn(text, *commands):
-    """Runs the commands in turn, three times each. A command is a list of words and the status that it ends with, or None."""
+    """Runs the commands in turn, three times each. A command is a list of words and the status that it has to end with, None for any; it may be missing, as None."""
     found = [Measured() if command else None for command in commands]
     for _ in range(ROUNDS):
         for measured, command in zip(found, commands):
@@ -69,6 +73,21 @@ def in_turn(text, *commands):
 def program():
     """The program that is measured: the first word of the command line, or else the built one."""
     return sys.argv[1] if len(sys.argv) > 1 else os.path.join(HERE, "..", "crates", "bulb", "out", "bulb")
+
+
+def compiled(text, path):
+    """Writes the image of a program to a file, and answers the file's path."""
+    with open(path, "wb") as file:
+        subprocess.run([program(), "compile"], input=text.encode(), stdout=file, check=True)
+    return path
+
+
+def has_mode(mode, text):
+    """Whether the program has a mode, by what it answers to it; where it hasn't, that is told."""
+    ended = subprocess.run([program(), mode, "--events", "1"], input=text.encode(), stdout=subprocess.DEVNULL, check=False)
+    if ended.returncode == 1:
+        print(f"{program()} has no mode {mode}")
+    return ended.returncode != 1
 
 
 def yardstick(name, folder):
