@@ -22,12 +22,12 @@ use Rattle.lb_source.specs.Run.{State, block_at, store, address_fault, allocated
 use Rattle.lb_flat.specs.declared.places.Place.TheVariants.{Slot}
 use Rattle.lb_flat.specs.Cells.{Cells, put, set_all}
 use Rattle.lb_flat.specs.Code as code
-use Rattle.lb_flat.specs.Code.{Code, Plain, Branch, Sequence, Nothing, Copy, Store, Call, Access, sites}
+use Rattle.lb_flat.specs.Code.{Code, Plain, Branch, Sequence, Nothing, Store, Call, Access, sites}
 use Rattle.lb_flat.specs.Run.{World, Outcome, Goes, Stops, Caller, then_do, with_value, at_zero, spend, ask, unless, effect, values, turns, run_with}
-use Rattle.lb_flat.specs.Flatten.{term_code, temporaries, flat_code}
+use Rattle.lb_flat.specs.Flatten.{holder, holders, term_code, flat_code}
 use Rattle.lb_flat.proofs.BooleanLemmas.{by_test}
 use Rattle.lb_flat.proofs.PutLemmas.{put_same, put_other, slots_differ}
-use Rattle.lb_flat.proofs.FlatTerms.{AreNumbered, Holds, all_left, all_right, values_length, term_follows, terms_follow}
+use Rattle.lb_flat.proofs.FlatTerms.{AreNumbered, Holds, all_left, all_right, values_length, holder_below, term_follows, terms_follow}
 use Rattle.lb_flat.proofs.FlatSites.{term_sites, block_sites, drop_both}
 use Rattle.lb_flat.proofs.SourceFollow.{world_of, FollowsSource, both_go, both_stop, owes_nothing, source_assoc, alone, then_follows, after_block, after_release, zero_follows, spend_follows, value_first, value_before}
 
@@ -134,22 +134,22 @@ module _ (ar : Arities) (number function : Text → ℕ) (t : ℕ) (call : sourc
     head_follows : (s : State) (a : Cells) (f : ℕ → source.Outcome) (g : ℕ → Cells → World → Outcome Cells) → Holds number t s a
         → ((v : ℕ) (b : Cells) → Holds number t s b → FollowsSource (Holds number t) (f v) (g v b (world_of s)))
         → FollowsSource (Holds number t) (source.with_value (value_in s e) s f)
-        (then_do (run_with Slot other n os (term_code number e t Nothing) a (world_of s)) (λ b u. with_value (or_unset (b (Slot t))) u (λ v. g v b u)))
+        (then_do (run_with Slot other n os (term_code number e None t Nothing) a (world_of s)) (λ b u. with_value (or_unset (b (Slot (holder number e None t)))) u (λ v. g v b u)))
     head_follows s a f g h k =
         value_first (Holds number t) (value_in s e) s f _ (λ v is.
-        term_follows number t other n (Holds number t) (λ b u. with_value (or_unset (b (Slot t))) u (λ v. g v b u)) (f v) os e s t v Nothing a (omega arith) named h is (λ b h' has keeps.
+        term_follows number t other n (Holds number t) (λ b u. with_value (or_unset (b (Slot (holder number e None t)))) u (λ v. g v b u)) (f v) os e s None t v Nothing a (omega arith) named h is (λ b h' has keeps.
         subst (λ r. FollowsSource (Holds number t) (f v) (with_value (or_unset r) (world_of s) (λ v. g v b (world_of s)))) (sym has) (k v b h')))
 
     loop_follows : (m : ℕ) (s : State) (a : Cells) → Holds number t s a
-        → FollowsSource (Holds number t) (source.turns m e body s) (turns m (λ c. c (Slot t)) (run_with Slot other n os (term_code number e t Nothing)) flat_body a (world_of s))
+        → FollowsSource (Holds number t) (source.turns m e body s) (turns m (λ c. c (Slot (holder number e None t))) (run_with Slot other n os (term_code number e None t Nothing)) flat_body a (world_of s))
     loop_follows zero s a h =
         head_follows s a (λ v. source.at_zero v (source.Goes s) (source.Stops s.trace Spent)) (λ v b u. at_zero v (Goes b u) (Stops u.trace Spent)) h
         (λ v b h'. zero_follows (Holds number t) v _ _ _ _ (both_go h') both_stop)
     loop_follows (suc m) s a h =
         head_follows s a (λ v. source.at_zero v (source.Goes s) (source.spend s.fuel s (λ u. source.then_do (body u) (source.turns m e body))))
-        (λ v b u. at_zero v (Goes b u) (spend u.fuel u (λ w. then_do (flat_body b w) (turns m (λ c. c (Slot t)) (run_with Slot other n os (term_code number e t Nothing)) flat_body)))) h
+        (λ v b u. at_zero v (Goes b u) (spend u.fuel u (λ w. then_do (flat_body b w) (turns m (λ c. c (Slot (holder number e None t))) (run_with Slot other n os (term_code number e None t Nothing)) flat_body)))) h
         (λ v b h'. zero_follows (Holds number t) v _ _ _ _ (both_go h') (spend_follows (Holds number t) s.fuel s _ _ (λ f.
-        then_follows (Holds number t) (Holds number t) (source.turns m e body) (turns m (λ c. c (Slot t)) (run_with Slot other n os (term_code number e t Nothing)) flat_body)
+        then_follows (Holds number t) (Holds number t) (source.turns m e body) (turns m (λ c. c (Slot (holder number e None t))) (run_with Slot other n os (term_code number e None t Nothing)) flat_body)
         (bodies (record s { fuel = f }) b (record { at = h'.at })) (λ s' a' h''. loop_follows m s' a' h''))))
 
   -- ---- accesses of devices
@@ -180,8 +180,8 @@ module _ (ar : Arities) (number function : Text → ℕ) (t : ℕ) (call : sourc
           → FollowsSource R (source.then_do (source.with_value (before r (Ok [])) s (λ vs. source.access Read (x ∷ []) vs s)) K) (then_do (run_with Slot other n os (flat_code number function t (Interacts (x ∷ []) Read (p ∷ [])) rest) a (world_of s)) L)
       at (Err f) is = owes_nothing
       at (Ok v) is =
-          term_follows number t other n R L _ os p s t v _ a (omega arith) (all_left _ (term_names p) [] h.names.1) g is (λ c g' has keeps.
-          plain_follows R (Access Read) (t ∷ []) (number x ∷ []) (v ∷ []) c os rest s L _ (ap (λ q. before (or_unset q) (Ok [])) has)
+          term_follows number t other n R L _ os p s None t v _ a (omega arith) (all_left _ (term_names p) [] h.names.1) g is (λ c g' has keeps.
+          plain_follows R (Access Read) (holder number p None t ∷ []) (number x ∷ []) (v ∷ []) c os rest s L _ (ap (λ q. before (or_unset q) (Ok [])) has)
           (read_follows R x v s K L os rest c h.names.0 g' k (address_fault v) s.replies))
 
   write_command : (p e : Term) (R : State → Cells → Type 0) (os : List ℕ) (rest : Code ℕ) (s : State) (a : Cells) (K : State → source.Outcome) (L : Cells → World → Outcome Cells) → Suits ar number t (Interacts [] Write (p ∷ e ∷ [])) → Holds number t s a → Rest R os rest K L
@@ -193,10 +193,13 @@ module _ (ar : Arities) (number function : Text → ℕ) (t : ℕ) (call : sourc
       at (Err f) q is1 is2 = owes_nothing
       at (Ok u) (Err f) is1 is2 = owes_nothing
       at (Ok u) (Ok v) is1 is2 =
-          term_follows number t other n R L _ os p s t u _ a (omega arith) (all_left _ (term_names p) (term_names e ++ []) h.names) g is1 (λ b g1 has1 keeps1.
-          term_follows number t other n R L _ os e s (t + 1) v _ b (omega arith) (all_left _ (term_names e) [] (all_right _ (term_names p) (term_names e ++ []) h.names)) g1 is2 (λ c g2 has2 keeps2.
-          let both : values Slot (t ∷ (t + 1) ∷ []) c ≡ Ok (u ∷ v ∷ []) = ap₂ (λ i j. before (or_unset i) (before (or_unset j) (Ok []))) (keeps2 t (omega arith) ∙ has1) has2 in
-          plain_follows R (Access Write) (t ∷ (t + 1) ∷ []) [] (u ∷ v ∷ []) c os rest s L _ both
+          let i = holder number p None t in
+          let j = holder number e None (t + 1) in
+          let named = all_left _ (term_names p) (term_names e ++ []) h.names in
+          term_follows number t other n R L _ os p s None t u _ a (omega arith) named g is1 (λ b g1 has1 keeps1.
+          term_follows number t other n R L _ os e s None (t + 1) v _ b (omega arith) (all_left _ (term_names e) [] (all_right _ (term_names p) (term_names e ++ []) h.names)) g1 is2 (λ c g2 has2 keeps2.
+          let both : values Slot (i ∷ j ∷ []) c ≡ Ok (u ∷ v ∷ []) = ap₂ (λ i j. before (or_unset i) (before (or_unset j) (Ok []))) (keeps2 i (holder_below number t p t (omega arith) named) ∙ has1) has2 in
+          plain_follows R (Access Write) (i ∷ j ∷ []) [] (u ∷ v ∷ []) c os rest s L _ both
           (write_follows R u v s K L os rest c g2 k (address_fault u))))
 
   interact_follows : (xs : List Text) (j : Action) (es : List Term) (R : State → Cells → Type 0) (os : List ℕ) (rest : Code ℕ) (s : State) (a : Cells) (K : State → source.Outcome) (L : Cells → World → Outcome Cells)
@@ -222,18 +225,20 @@ module _ (ar : Arities) (number function : Text → ℕ) (t : ℕ) (call : sourc
   command_follows Skips R os rest s a K L h g k = k s a g
   command_follows (Sets x e) R os rest s a K L h g k =
       value_before R (value_in s e) s (λ v. source.Goes (set x v s)) K _ (λ v is.
-      term_follows number t other n R L _ os e s t v _ a (omega arith) h.names.1 g is (λ b g' has keeps.
-      plain_follows R Copy (t ∷ []) (number x ∷ []) (v ∷ []) b os rest s L _ (ap (λ q. before (or_unset q) (Ok [])) has)
-      (k (set x v s) (put (Slot (number x)) (Some v) b) (set_holds number t one x (Some v) s b h.names.0 g'))))
+      term_follows number t other n R L _ os e s (Some (number x)) t v rest a (omega arith) h.names.1 g is (λ b g'.
+      k (set x v s) (put (Slot (number x)) (Some v) b) (set_holds number t one x (Some v) s b h.names.0 g')))
   command_follows (Unsets x) R os rest s a K L h g k =
       k (record s { variables = maps.put x None s.variables }) (put (Slot (number x)) None a) (set_holds number t one x None s a h.names.0 g)
   command_follows (Stores w p e) R os rest s a K L h g k =
       value_before R (value_in s p) s (λ q. source.with_value (value_in s e) s (λ v. source.with_value (store (byte_count w) q v s.memory) s (λ m. source.Goes (record s { memory = m })))) K _ (λ q is1.
       value_before R (value_in s e) s (λ v. source.with_value (store (byte_count w) q v s.memory) s (λ m. source.Goes (record s { memory = m }))) K _ (λ v is2.
-      term_follows number t other n R L _ os p s t q _ a (omega arith) (all_left _ (term_names p) (term_names e) h.names) g is1 (λ b g1 has1 keeps1.
-      term_follows number t other n R L _ os e s (t + 1) v _ b (omega arith) (all_right _ (term_names p) (term_names e) h.names) g1 is2 (λ c g2 has2 keeps2.
-      let both : values Slot (t ∷ (t + 1) ∷ []) c ≡ Ok (q ∷ v ∷ []) = ap₂ (λ i j. before (or_unset i) (before (or_unset j) (Ok []))) (keeps2 t (omega arith) ∙ has1) has2 in
-      plain_follows R (Store w) (t ∷ (t + 1) ∷ []) [] (q ∷ v ∷ []) c os rest s L _ both
+      let i = holder number p None t in
+      let j = holder number e None (t + 1) in
+      let named = all_left _ (term_names p) (term_names e) h.names in
+      term_follows number t other n R L _ os p s None t q _ a (omega arith) named g is1 (λ b g1 has1 keeps1.
+      term_follows number t other n R L _ os e s None (t + 1) v _ b (omega arith) (all_right _ (term_names p) (term_names e) h.names) g1 is2 (λ c g2 has2 keeps2.
+      let both : values Slot (i ∷ j ∷ []) c ≡ Ok (q ∷ v ∷ []) = ap₂ (λ i j. before (or_unset i) (before (or_unset j) (Ok []))) (keeps2 i (holder_below number t p t (omega arith) named) ∙ has1) has2 in
+      plain_follows R (Store w) (i ∷ j ∷ []) [] (q ∷ v ∷ []) c os rest s L _ both
       (store_follows R (store (byte_count w) q v s.memory) s K L os rest c g2 k)))))
   command_follows (Allocates m x d) R os rest s a K L h g k =
       let base = block_at s.stack os in
@@ -254,7 +259,7 @@ module _ (ar : Arities) (number function : Text → ℕ) (t : ℕ) (call : sourc
       let all : sites yes_code ++ sites no_code ≡ source_sites b ++ source_sites d =
       ap (λ l. l ++ sites no_code) (block_sites number function t b) ∙ ap (λ l. source_sites b ++ l) (block_sites number function t d) in
       value_before R (value_in s e) s (λ v. source.at_zero v source_no source_yes) K _ (λ v is.
-      term_follows number t other n R L _ os e s t v (Sequence (Branch t yes_code no_code) rest) a (omega arith) (all_left _ (term_names e) (command_names b ++ command_names d) h.names) g is (λ c g' has keeps.
+      term_follows number t other n R L _ os e s None t v (Sequence (Branch (holder number e None t) yes_code no_code) rest) a (omega arith) (all_left _ (term_names e) (command_names b ++ command_names d) h.names) g is (λ c g' has keeps.
       subst (λ r. FollowsSource R (source.then_do (source.at_zero v source_no source_yes) K)
       (then_do (then_do (with_value (or_unset r) (world_of s) (λ v. at_zero v (run_with Slot other n (drop (length (sites yes_code)) os) no_code c (world_of s)) (run_with Slot other n os yes_code c (world_of s)))) onward) L)) (sym has)
       (after_block (Holds number t) R K onward L
@@ -264,20 +269,20 @@ module _ (ar : Arities) (number function : Text → ℕ) (t : ℕ) (call : sourc
       (alone (Holds number t) _ _ (command_follows b (Holds number t) os Nothing s c source.Goes Goes (suits_yes ar number t e b d h) g' (λ s' a' g''. both_go g''))))
       (λ s' a' g''. subst (λ (l : List ℕ). FollowsSource R (K s') (then_do (run_with Slot other n (drop (length l) os) rest a' (world_of s')) L)) (sym all) (k s' a' g'')))))
   command_follows (Repeats e b) R os rest s a K L h g k =
-      let head = term_code number e t Nothing in
+      let head = term_code number e None t Nothing in
       let body = flat_code number function t b Nothing in
       let onward = run_with Slot other n (drop (length (sites head ++ sites body)) os) rest in
-      let none : sites head ≡ [] = term_sites number e t Nothing in
+      let none : sites head ≡ [] = term_sites number e None t Nothing in
       let all : sites head ++ sites body ≡ source_sites b = ap (λ l. l ++ sites body) none ∙ block_sites number function t b in
       after_block (Holds number t) R K onward L
-      (subst (λ (l : List ℕ). FollowsSource (Holds number t) (source.turns n e (source.run_with call n os b) s) (turns n (λ c. c (Slot t)) (run_with Slot other n os head) (run_with Slot other n (drop (length l) os) body) a (world_of s))) (sym none)
+      (subst (λ (l : List ℕ). FollowsSource (Holds number t) (source.turns n e (source.run_with call n os b) s) (turns n (λ c. c (Slot (holder number e None t))) (run_with Slot other n os head) (run_with Slot other n (drop (length l) os) body) a (world_of s))) (sym none)
       (loop_follows e os (all_left _ (term_names e) (command_names b) h.names) (source.run_with call n os b) (run_with Slot other n os body)
       (λ s' a' g'. alone (Holds number t) _ _ (command_follows b (Holds number t) os Nothing s' a' source.Goes Goes (suits_turn ar number t e b h) g' (λ s'' a'' g''. both_go g''))) n s a g))
       (λ s' a' g'. subst (λ (l : List ℕ). FollowsSource R (K s') (then_do (run_with Slot other n (drop (length l) os) rest a' (world_of s')) L)) (sym all) (k s' a' g'))
   command_follows (Calls xs f es) R os rest s a K L h g k =
       value_before R (values_in s es) s (λ vs. call f vs xs s) K _ (λ vs is.
       terms_follow number t other n R L _ os es s t vs _ a (omega arith) (all_right _ xs (terms_names es) h.names) g is (λ c g' vals keeps.
-      plain_follows R (Call (function f)) (temporaries t es) (map number xs) vs c os rest s L _ vals
+      plain_follows R (Call (function f)) (holders number es t) (map number xs) vs c os rest s L _ vals
       (after_block (Holds number t) R K (run_with Slot other n os rest) L
       (alike f vs xs s c (all_left _ xs (terms_names es) h.names) h.calls.0.1 (values_length s.variables s.memory es vs is ∙ h.calls.0.0) g') k)))
   command_follows (Interacts xs j es) R os rest s a K L h g k = interact_follows xs j es R os rest s a K L h.accesses.0 h g k

@@ -1,6 +1,6 @@
 -- The flat form of a program that keeps the rules asks for no more than the program.
-use Rattle.std.proofs.Common.{◌≡◌, ℕ, suc, ◌+◌, ◌*◌, ◌≤◌, nat_le, Bool, true, false, List, [], ◌∷◌, map, length, sum, refl, sym, ap, ◌∙◌, subst, arith, Contains}
-use Rattle.std.specs.Prelude.{if◌then◌else◌}
+use Rattle.std.proofs.Common.{◌≡◌, ℕ, suc, ◌+◌, ◌*◌, ◌≤◌, nat_le, Bool, true, false, List, [], ◌∷◌, map, length, sum, Option, Some, None, refl, sym, ap, ◌∙◌, subst, arith, Contains}
+use Rattle.std.specs.Prelude.{if◌then◌else◌, unwrap_or}
 use Rattle.std.specs.List.{AllByRecursion}
 use Rattle.std.specs.Str.{bytes_eq}
 use Rattle.std.proofs.lemmas.Bool.{le-leb, leb-true}
@@ -17,11 +17,11 @@ use Rattle.lb_syntax.specs.declared.tree.Action.{Action}
 use Rattle.lb_syntax.specs.declared.tree.Action.TheVariants.{Read, Write}
 use Rattle.lb_syntax.specs.declared.limits.TheConstants.{NEAR_FRAME}
 use Rattle.lb_syntax.proofs.SetLemmas.{distinct-size}
-use Rattle.lb_flat.specs.Code.{Code, Plain, Branch, Nothing, Sequence, Copy, Compute, Load, Store, Call, Access, Routine, sites}
+use Rattle.lb_flat.specs.Code.{Code, Plain, Branch, Nothing, Sequence, Compute, Load, Store, Call, Access, Routine, sites}
 use Rattle.lb_flat.specs.Counts.{loads, stores, accesses, arguments, targets}
 use Rattle.lb_flat.specs.Needs.{frame_need, flat_words}
 use Rattle.lb_flat.specs.SourceCounts.{term_loads, source_loads, source_stores, source_accesses, source_arguments, source_targets, greatest_arguments}
-use Rattle.lb_flat.specs.Flatten.{term_code, terms_code, temporaries, place_in, flat_code, flat_procedure, IsFlatForm, AreFlatForms}
+use Rattle.lb_flat.specs.Flatten.{holder, holders, term_code, terms_code, place_in, flat_code, flat_procedure, IsFlatForm, AreFlatForms}
 use Rattle.lb_flat.specs.Laws.{AsksNoMore, AllAskNoMore, FlattenedAsksNoMore}
 use Rattle.lb_flat.proofs.FlatTerms.{all_left, all_right}
 use Rattle.lb_flat.proofs.FlatSites.{block_sites}
@@ -29,25 +29,26 @@ use Rattle.lb_flat.proofs.FlatForms.{by_elements, weaken, same_text, later, none
 
 -- ---- expressions
 
--- code that adds so many loads and words to the rest, and nothing else that is counted
+-- code that adds so many loads to the rest, at most so many words, and nothing else that is counted
 pub record Adds (l w : ℕ) (c rest : Code ℕ) : Type 0 where
   pub loads : loads c ≡ l + loads rest
   pub stores : stores c ≡ stores rest
   pub accesses : accesses c ≡ accesses rest
   pub arguments : arguments c ≡ arguments rest
   pub targets : targets c ≡ targets rest
-  pub words : flat_words c ≡ w + flat_words rest
+  pub words : flat_words c ≤ w + flat_words rest
 
-pub term_adds : (number : Text → ℕ) (e : Term) (t : ℕ) (rest : Code ℕ) → Adds (term_loads e) (6 * nodes e) (term_code number e t rest) rest
-term_adds number (Number n) t rest = record { loads = omega arith; stores = omega arith; accesses = omega arith; arguments = omega arith; targets = omega arith; words = omega arith }
-term_adds number (Variable x) t rest = record { loads = omega arith; stores = omega arith; accesses = omega arith; arguments = omega arith; targets = omega arith; words = omega arith }
-term_adds number (Loaded w a) t rest =
-    let h = term_adds number a t (Sequence (Plain (Load w) (t ∷ []) (t ∷ [])) rest) in
+pub term_adds : (number : Text → ℕ) (e : Term) (target : Option ℕ) (t : ℕ) (rest : Code ℕ) → Adds (term_loads e) (6 * nodes e) (term_code number e target t rest) rest
+term_adds number (Number n) target t rest = record { loads = omega arith; stores = omega arith; accesses = omega arith; arguments = omega arith; targets = omega arith; words = omega arith }
+term_adds number (Variable x) None t rest = record { loads = omega arith; stores = omega arith; accesses = omega arith; arguments = omega arith; targets = omega arith; words = omega arith }
+term_adds number (Variable x) (Some y) t rest = record { loads = omega arith; stores = omega arith; accesses = omega arith; arguments = omega arith; targets = omega arith; words = omega arith }
+term_adds number (Loaded w a) target t rest =
+    let h = term_adds number a None t (Sequence (Plain (Load w) (holder number a None t ∷ []) (unwrap_or target t ∷ [])) rest) in
     record { loads = omega (arith, h.loads); stores = omega (arith, h.stores); accesses = omega (arith, h.accesses); arguments = omega (arith, h.arguments); targets = omega (arith, h.targets); words = omega (arith, h.words) }
-term_adds number (Operation op l r) t rest =
-    let last = Sequence (Plain (Compute op) (t ∷ (t + 1) ∷ []) (t ∷ [])) rest in
-    let g = term_adds number r (t + 1) last in
-    let h = term_adds number l t (term_code number r (t + 1) last) in
+term_adds number (Operation op l r) target t rest =
+    let last = Sequence (Plain (Compute op) (holder number l None t ∷ holder number r None (t + 1) ∷ []) (unwrap_or target t ∷ [])) rest in
+    let g = term_adds number r None (t + 1) last in
+    let h = term_adds number l None t (term_code number r None (t + 1) last) in
     record {
       loads = omega (arith, h.loads, g.loads);
       stores = omega (arith, h.stores, g.stores);
@@ -60,7 +61,7 @@ term_adds number (Operation op l r) t rest =
 terms_add : (number : Text → ℕ) (es : List Term) (t : ℕ) (rest : Code ℕ) → Adds (sum (map term_loads es)) (terms_words es) (terms_code number es t rest) rest
 terms_add number [] t rest = record { loads = omega arith; stores = refl; accesses = refl; arguments = refl; targets = refl; words = omega arith }
 terms_add number (e ∷ es) t rest =
-    let h = term_adds number e t (terms_code number es (t + 1) rest) in
+    let h = term_adds number e None t (terms_code number es (t + 1) rest) in
     let g = terms_add number es (t + 1) rest in
     let more_loads = sum_by-cons (λ n. n) (term_loads e) (map term_loads es) in
     let more_words = sum_by-cons (λ n. n) (source.term_words e) (map source.term_words es) in
@@ -73,9 +74,9 @@ terms_add number (e ∷ es) t rest =
       words = omega (arith, h.words, g.words, more_words);
     }
 
-pub temporaries_length : (t : ℕ) (es : List Term) → length (temporaries t es) ≡ length es
-temporaries_length t [] = refl
-temporaries_length t (e ∷ es) = ap suc (temporaries_length (t + 1) es)
+pub holders_length : (number : Text → ℕ) (es : List Term) (t : ℕ) → length (holders number es t) ≡ length es
+holders_length number [] t = refl
+holders_length number (e ∷ es) t = ap suc (holders_length number es (t + 1))
 
 -- ---- commands
 
@@ -103,7 +104,7 @@ module _ (number function : Text → ℕ) (t : ℕ) where
         words = omega arith;
       }
   counts (Sets x e) rest =
-      let h = term_adds number e t (Sequence (Plain Copy (t ∷ []) (number x ∷ [])) rest) in
+      let h = term_adds number e (Some (number x)) t rest in
       record {
         loads = omega (arith, h.loads);
         stores = omega (arith, h.stores);
@@ -122,9 +123,9 @@ module _ (number function : Text → ℕ) (t : ℕ) where
         words = omega arith;
       }
   counts (Stores w a e) rest =
-      let last = Sequence (Plain (Store w) (t ∷ (t + 1) ∷ []) []) rest in
-      let h = term_adds number a t (term_code number e (t + 1) last) in
-      let g = term_adds number e (t + 1) last in
+      let last = Sequence (Plain (Store w) (holder number a None t ∷ holder number e None (t + 1) ∷ []) []) rest in
+      let h = term_adds number a None t (term_code number e None (t + 1) last) in
+      let g = term_adds number e None (t + 1) last in
       record {
         loads = omega (arith, h.loads, g.loads);
         stores = omega (arith, h.stores, g.stores);
@@ -144,7 +145,7 @@ module _ (number function : Text → ℕ) (t : ℕ) where
         words = omega (arith, h.words);
       }
   counts (Chooses e b d) rest =
-      let h = term_adds number e t (Sequence (Branch t (code b Nothing) (code d Nothing)) rest) in
+      let h = term_adds number e None t (Sequence (Branch (holder number e None t) (code b Nothing) (code d Nothing)) rest) in
       let g = counts b Nothing in
       let k = counts d Nothing in
       record {
@@ -156,7 +157,7 @@ module _ (number function : Text → ℕ) (t : ℕ) where
         words = omega (arith, h.words, g.words, k.words);
       }
   counts (Repeats e b) rest =
-      let h = term_adds number e t Nothing in
+      let h = term_adds number e None t Nothing in
       let g = counts b Nothing in
       record {
         loads = omega (arith, h.loads, g.loads);
@@ -167,24 +168,24 @@ module _ (number function : Text → ℕ) (t : ℕ) where
         words = omega (arith, h.words, g.words);
       }
   counts (Calls xs f es) rest =
-      let h = terms_add number es t (Sequence (Plain (Call (function f)) (temporaries t es) (map number xs)) rest) in
+      let h = terms_add number es t (Sequence (Plain (Call (function f)) (holders number es t) (map number xs)) rest) in
       record {
         loads = omega (arith, h.loads);
         stores = omega (arith, h.stores);
         accesses = omega (arith, h.accesses);
-        arguments = omega (arith, h.arguments, temporaries_length t es, length-map xs number);
-        targets = omega (arith, h.targets, temporaries_length t es, length-map xs number);
-        words = omega (arith, h.words, temporaries_length t es, length-map xs number);
+        arguments = omega (arith, h.arguments, holders_length number es t, length-map xs number);
+        targets = omega (arith, h.targets, holders_length number es t, length-map xs number);
+        words = omega (arith, h.words, holders_length number es t, length-map xs number);
       }
   counts (Interacts xs k es) rest =
-      let h = terms_add number es t (Sequence (Plain (Access k) (temporaries t es) (map number xs)) rest) in
+      let h = terms_add number es t (Sequence (Plain (Access k) (holders number es t) (map number xs)) rest) in
       record {
         loads = omega (arith, h.loads);
         stores = omega (arith, h.stores);
         accesses = omega (arith, h.accesses);
-        arguments = omega (arith, h.arguments, temporaries_length t es, length-map xs number);
-        targets = omega (arith, h.targets, temporaries_length t es, length-map xs number);
-        words = omega (arith, h.words, temporaries_length t es, length-map xs number);
+        arguments = omega (arith, h.arguments, holders_length number es t, length-map xs number);
+        targets = omega (arith, h.targets, holders_length number es t, length-map xs number);
+        words = omega (arith, h.words, holders_length number es t, length-map xs number);
       }
   counts Ends rest =
       record {

@@ -7,7 +7,7 @@ use Rattle.lb_syntax.specs.Names.{Text}
 use Rattle.lb_syntax.specs.Tree.{Number, Variable, Loaded, Operation, Procedure, chain}
 use Rattle.lb_syntax.specs.Tree.{Command, Skips, Sets, Unsets, Stores, Allocates, Chooses, Repeats, Calls, Interacts}
 use Rattle.lb_syntax.specs.Needs as source
-use Rattle.lb_flat.specs.Code.{Constant, Copy, Compute, Load, Store, Forget, Call, Access}
+use Rattle.lb_flat.specs.Code.{Constant, Compute, Load, Store, Forget, Call, Access}
 use Rattle.lb_flat.specs.Code.{Code, Plain, Reserve, Branch, Loop, Nothing, Sequence, Routine}
 use Rattle.lb_flat.specs.Code as code
 use Rattle.lb_flat.specs.Needs.{frame_need, flat_routine_words}
@@ -41,9 +41,8 @@ flat c = flat_code (place_in names) (place_in (f ∷ g ∷ [])) 3 c Nothing
 abbrev sum_command : Command
 sum_command = Sets x (Operation Add (Variable a) (Loaded Four (Variable a)))
 
--- the left operand first, into the first temporary
-sum_is : flat sum_command
-    ≡ code.chain (Plain Copy (0 ∷ []) (3 ∷ []) ∷ Plain Copy (0 ∷ []) (4 ∷ []) ∷ Plain (Load Four) (4 ∷ []) (4 ∷ []) ∷ Plain (Compute Add) (3 ∷ 4 ∷ []) (3 ∷ []) ∷ Plain Copy (3 ∷ []) (1 ∷ []) ∷ [])
+-- the variable is read where it is, and the sum comes into the target
+sum_is : flat sum_command ≡ code.chain (Plain (Load Four) (0 ∷ []) (4 ∷ []) ∷ Plain (Compute Add) (0 ∷ 4 ∷ []) (1 ∷ []) ∷ [])
 sum_is = refl
 
 -- while (x < 3) { (x, a) = g(a, 7); }: the condition is computed before each test
@@ -52,9 +51,9 @@ loop_command = Repeats (Operation Ltu (Variable x) (Number 3)) (chain (Calls (x 
 
 loop_is : flat loop_command
     ≡ code.chain (Loop
-    (code.chain (Plain Copy (1 ∷ []) (3 ∷ []) ∷ Plain (Constant 3) [] (4 ∷ []) ∷ Plain (Compute Ltu) (3 ∷ 4 ∷ []) (3 ∷ []) ∷ []))
+    (code.chain (Plain (Constant 3) [] (4 ∷ []) ∷ Plain (Compute Ltu) (1 ∷ 4 ∷ []) (3 ∷ []) ∷ []))
     3
-    (code.chain (Plain Copy (0 ∷ []) (3 ∷ []) ∷ Plain (Constant 7) [] (4 ∷ []) ∷ Plain (Call 1) (3 ∷ 4 ∷ []) (1 ∷ 0 ∷ []) ∷ [])) ∷ [])
+    (code.chain (Plain (Constant 7) [] (4 ∷ []) ∷ Plain (Call 1) (0 ∷ 4 ∷ []) (1 ∷ 0 ∷ []) ∷ [])) ∷ [])
 loop_is = refl
 
 -- stackalloc 8 as p { store1(p, x); unset x; }
@@ -62,7 +61,7 @@ abbrev block_command : Command
 block_command = Allocates 8 p (chain (Stores One (Variable p) (Variable x) ∷ Unsets x ∷ []))
 
 block_is : flat block_command
-    ≡ code.chain (Reserve 8 2 (code.chain (Plain Copy (2 ∷ []) (3 ∷ []) ∷ Plain Copy (1 ∷ []) (4 ∷ []) ∷ Plain (Store One) (3 ∷ 4 ∷ []) [] ∷ Plain Forget [] (1 ∷ []) ∷ [])) ∷ [])
+    ≡ code.chain (Reserve 8 2 (code.chain (Plain (Store One) (2 ∷ 1 ∷ []) [] ∷ Plain Forget [] (1 ∷ []) ∷ [])) ∷ [])
 block_is = refl
 
 -- if a { skip; } else { MMIOWRITE(a, x); }
@@ -70,8 +69,7 @@ abbrev choice_command : Command
 choice_command = Chooses (Variable a) (chain (Skips ∷ [])) (chain (Interacts [] Write (Variable a ∷ Variable x ∷ []) ∷ []))
 
 choice_is : flat choice_command
-    ≡ code.chain (Plain Copy (0 ∷ []) (3 ∷ [])
-    ∷ Branch 3 Nothing (code.chain (Plain Copy (0 ∷ []) (3 ∷ []) ∷ Plain Copy (1 ∷ []) (4 ∷ []) ∷ Plain (Access Write) (3 ∷ 4 ∷ []) [] ∷ [])) ∷ [])
+    ≡ code.chain (Branch 0 Nothing (code.chain (Plain (Access Write) (0 ∷ 1 ∷ []) [] ∷ [])) ∷ [])
 choice_is = refl
 
 -- all of them in a function
@@ -91,8 +89,9 @@ whole_frames = refl
 whole_source_frame : source.frame_need whole ≡ 168
 whole_source_frame = refl
 
--- the flat form's copy to x takes 6 words and the source's command 8, and `skip` and `unset` are the rest
-whole_words : flat_routine_words whole_flat + 2 + 8 ≡ source.procedure_words whole
+-- the source counts 6 words for each of the nine variables that are read where they are, 8 for the assignment, whose sum comes into
+-- x at once, and 8 for `skip`
+whole_words : flat_routine_words whole_flat + 6 * 9 + 8 + 8 ≡ source.procedure_words whole
 whole_words = refl
 
 whole_memory_words : source_memory_words whole ≡ 80 + 4 + 4 + (1 + 1 + 1) + 4 * (2 + 2) + 4 * 2

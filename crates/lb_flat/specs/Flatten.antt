@@ -1,6 +1,6 @@
 -- Flat code for the source's commands. A function's variables are numbered, and the numbers behind theirs are temporaries, which hold
--- the values of parts of an expression.
-use Rattle.std.specs.Prelude.{◌≡◌, ℕ, suc, ◌+◌, if◌then◌else◌, List, [], ◌∷◌, length, map, codes}
+-- the values of parts of an expression that are no variables.
+use Rattle.std.specs.Prelude.{◌≡◌, ℕ, suc, ◌+◌, if◌then◌else◌, List, [], ◌∷◌, length, map, codes, Option, Some, None, unwrap_or}
 use Rattle.std.specs.Str.{bytes_eq}
 use Rattle.lb_syntax.specs.Names.{Text, is_among, AreDistinct}
 use Rattle.lb_syntax.specs.Tree.{Term, Number, Variable, Loaded, Operation, Procedure}
@@ -13,39 +13,50 @@ use Rattle.lb_flat.specs.SourceCounts.{greatest_arguments}
 
 -- ---- expressions
 
--- the value of an expression comes into variable t, and those from t on are free; then the rest
-abbrev pub term_code : (Text → ℕ) → Term → ℕ → Code ℕ → Code ℕ
-term_code number (Number n) t rest = Sequence (Plain (Constant n) [] (t ∷ [])) rest
-term_code number (Variable x) t rest = Sequence (Plain Copy (number x ∷ []) (t ∷ [])) rest
-term_code number (Loaded w a) t rest = term_code number a t (Sequence (Plain (Load w) (t ∷ []) (t ∷ [])) rest)
-term_code number (Operation op l r) t rest =
-    term_code number l t (term_code number r (t + 1) (Sequence (Plain (Compute op) (t ∷ (t + 1) ∷ []) (t ∷ [])) rest))
+-- which variable has the value of an expression: the target, if there is one. Else a variable's value stays where it is, and another
+-- one comes into variable t
+abbrev pub holder : (Text → ℕ) → Term → Option ℕ → ℕ → ℕ
+holder number (Variable x) target t = unwrap_or target (number x)
+holder number e target t = unwrap_or target t
 
--- the values of several expressions come into the variables from t on
+-- the value of an expression comes into its holder, where those from t on are free; then the rest. The target is set by the last
+-- command alone, so the expression may read it
+abbrev pub term_code : (Text → ℕ) → Term → Option ℕ → ℕ → Code ℕ → Code ℕ
+term_code number (Number n) target t rest = Sequence (Plain (Constant n) [] (unwrap_or target t ∷ [])) rest
+term_code number (Variable x) None t rest = rest
+term_code number (Variable x) (Some y) t rest = Sequence (Plain Copy (number x ∷ []) (y ∷ [])) rest
+term_code number (Loaded w a) target t rest =
+    term_code number a None t (Sequence (Plain (Load w) (holder number a None t ∷ []) (unwrap_or target t ∷ [])) rest)
+term_code number (Operation op l r) target t rest =
+    term_code number l None t (term_code number r None (t + 1)
+    (Sequence (Plain (Compute op) (holder number l None t ∷ holder number r None (t + 1) ∷ []) (unwrap_or target t ∷ [])) rest))
+
+-- the values of several expressions come into their holders, where the variables from t on are free
 abbrev pub terms_code : (Text → ℕ) → List Term → ℕ → Code ℕ → Code ℕ
 terms_code number [] t rest = rest
-terms_code number (e ∷ es) t rest = term_code number e t (terms_code number es (t + 1) rest)
+terms_code number (e ∷ es) t rest = term_code number e None t (terms_code number es (t + 1) rest)
 
--- those variables
-abbrev pub temporaries : ℕ → List Term → List ℕ
-temporaries t [] = []
-temporaries t (e ∷ es) = t ∷ temporaries (t + 1) es
+-- those holders
+abbrev pub holders : (Text → ℕ) → List Term → ℕ → List ℕ
+holders number [] t = []
+holders number (e ∷ es) t = holder number e None t ∷ holders number es (t + 1)
 
 -- ---- commands
 
 -- a command or a block, before the rest, where the variables from t on are free
 abbrev pub flat_code : (Text → ℕ) → (Text → ℕ) → ℕ → Command → Code ℕ → Code ℕ
 flat_code number function t Skips rest = rest
-flat_code number function t (Sets x e) rest = term_code number e t (Sequence (Plain Copy (t ∷ []) (number x ∷ [])) rest)
+flat_code number function t (Sets x e) rest = term_code number e (Some (number x)) t rest
 flat_code number function t (Unsets x) rest = Sequence (Plain Forget [] (number x ∷ [])) rest
 flat_code number function t (Stores w a e) rest =
-    term_code number a t (term_code number e (t + 1) (Sequence (Plain (Store w) (t ∷ (t + 1) ∷ []) []) rest))
+    term_code number a None t (term_code number e None (t + 1) (Sequence (Plain (Store w) (holder number a None t ∷ holder number e None (t + 1) ∷ []) []) rest))
 flat_code number function t (Allocates n x b) rest = Sequence (Reserve n (number x) (flat_code number function t b Nothing)) rest
 flat_code number function t (Chooses e b d) rest =
-    term_code number e t (Sequence (Branch t (flat_code number function t b Nothing) (flat_code number function t d Nothing)) rest)
-flat_code number function t (Repeats e b) rest = Sequence (Loop (term_code number e t Nothing) t (flat_code number function t b Nothing)) rest
-flat_code number function t (Calls xs f es) rest = terms_code number es t (Sequence (Plain (Call (function f)) (temporaries t es) (map number xs)) rest)
-flat_code number function t (Interacts xs k es) rest = terms_code number es t (Sequence (Plain (Access k) (temporaries t es) (map number xs)) rest)
+    term_code number e None t (Sequence (Branch (holder number e None t) (flat_code number function t b Nothing) (flat_code number function t d Nothing)) rest)
+flat_code number function t (Repeats e b) rest =
+    Sequence (Loop (term_code number e None t Nothing) (holder number e None t) (flat_code number function t b Nothing)) rest
+flat_code number function t (Calls xs f es) rest = terms_code number es t (Sequence (Plain (Call (function f)) (holders number es t) (map number xs)) rest)
+flat_code number function t (Interacts xs k es) rest = terms_code number es t (Sequence (Plain (Access k) (holders number es t) (map number xs)) rest)
 flat_code number function t Ends rest = rest
 flat_code number function t (Then c d) rest = flat_code number function t c (flat_code number function t d rest)
 

@@ -14,7 +14,7 @@ use Rattle.lb_flat.specs.declared.flat.FlatCmd.{FlatCmd}
 use Rattle.lb_flat.specs.Code.{Code, Sequence}
 use Rattle.lb_flat.specs.Flat.{flat_command}
 use Rattle.lb_flat.specs.SourceCounts.{greatest_arguments}
-use Rattle.lb_flat.specs.Flatten.{place_in, term_code, terms_code, flat_code}
+use Rattle.lb_flat.specs.Flatten.{place_in, holder, holders, term_code, terms_code, flat_code}
 
 -- these commands, before the rest
 abbrev pub emitted : List FlatCmd → Code ℕ → Code ℕ
@@ -43,12 +43,19 @@ number_in (y ∷ ys) x = if bytes_eq y x then Some 0 else option_map suc (number
 pub record AreTheirNumbers (numbers : BTreeMap (Bor (List ℕ)) ℕ) (names : List Text) : Type 0 where
   pub each : (x : Text) → get_by (λ k. slice_cmp nat_cmp x k.now) numbers ≡ number_in names x
 
--- the code of an expression, and of several, whose values come into the variables from t on
-abbrev pub code_of_term : Numbering → Term → ℕ → Code ℕ → Code ℕ
-code_of_term s e t rest = term_code (place_in s.names) e t rest
+-- the code of an expression, which may have a target, where the variables from t on are free, and that of several
+abbrev pub code_of_term : Numbering → Term → Option ℕ → ℕ → Code ℕ → Code ℕ
+code_of_term s e target t rest = term_code (place_in s.names) e target t rest
 
 abbrev pub code_of_terms : Numbering → List Term → ℕ → Code ℕ → Code ℕ
 code_of_terms s es t rest = terms_code (place_in s.names) es t rest
+
+-- which variables have their values
+abbrev pub holder_of_term : Numbering → Term → Option ℕ → ℕ → ℕ
+holder_of_term s e target t = holder (place_in s.names) e target t
+
+abbrev pub holders_of_terms : Numbering → List Term → ℕ → List ℕ
+holders_of_terms s es t = holders (place_in s.names) es t
 
 -- the code of a command or a block: the variables behind those with names are temporaries
 abbrev pub code_of : Numbering → Command → Code ℕ → Code ℕ

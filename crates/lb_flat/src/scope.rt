@@ -7,7 +7,7 @@ ghost use Rattle.lb_syntax.specs.Rules.{function_names};
 ghost use Rattle.lb_syntax.specs.WellFormed.{IsWord};
 ghost use Rattle.lb_flat.specs.Code.{Nothing, Sequence};
 ghost use Rattle.lb_flat.specs.Flat.{flat_command, flat_block};
-ghost use Rattle.lb_flat.specs.Flatten.{place_in, temporaries};
+ghost use Rattle.lb_flat.specs.Flatten.{place_in};
 ghost use Rattle.lb_flat.specs.InternalFlatten.{emitted, Writes};
 
 use crate::flat::{FlatBlock, FlatCmd};
@@ -41,16 +41,16 @@ impl<'a> Model for Scope<'a> {
 }
 
 impl<'a> Scope<'a> {
-    ghost use Rattle.std.specs.Prelude.{◌≡◌, ◌<◌, ◌≤◌, ◌^◌, map, length, All, IfOk, OnOk};
+    ghost use Rattle.std.specs.Prelude.{◌≡◌, ◌<◌, ◌≤◌, ◌^◌, ℕ, map, length, None, All, IfOk, OnOk};
     ghost use Rattle.lb_syntax.specs.declared.limits.TheConstants.{MOST_FUNCTIONS};
     ghost use Rattle.lb_syntax.specs.Names.{IsName};
-    ghost use Rattle.lb_syntax.specs.Tree.{Sets, Stores, Calls, Interacts, procedure_of, term_of, command_of, block_of};
+    ghost use Rattle.lb_syntax.specs.Tree.{Variable, Sets, Stores, Calls, Interacts, procedure_of, term_of, command_of, block_of};
     ghost use Rattle.lb_syntax.specs.Rules.{function_names};
     ghost use Rattle.lb_syntax.specs.WellFormed.{IsWord, IsTerm, IsCommand, IsBlock};
     ghost use Rattle.lb_flat.specs.Code.{Reserve, Branch, Loop, Nothing, Sequence};
     ghost use Rattle.lb_flat.specs.Flat.{flat_block};
-    ghost use Rattle.lb_flat.specs.Flatten.{place_in, temporaries};
-    ghost use Rattle.lb_flat.specs.InternalFlatten.{Writes, code_of_term, code_of_terms, code_of, HasTermRoom, HasTermsRoom, HasRoom};
+    ghost use Rattle.lb_flat.specs.Flatten.{place_in};
+    ghost use Rattle.lb_flat.specs.InternalFlatten.{Writes, code_of_term, code_of_terms, holder_of_term, holders_of_terms, code_of, HasTermRoom, HasTermsRoom, HasRoom};
 
     // A scope of these functions and names.
     pub fn new(alloc: Global, functions: &'a [Function], names: VariableNumbers<'a>) -> Scope<'a>
@@ -93,78 +93,98 @@ impl<'a> Scope<'a> {
         Ok(numbers)
     }
 
-    // Adds the code of an expression, whose value comes into variable t.
-    fn add_term(&self, code: &mut Items<FlatCmd>, e: &Expr, t: u32) -> Result<(), AllocError>
+    // Adds the code of an expression, and gives the variable that has its value then: the target, if there is one, else
+    // its own variable or t. Those from t on are free.
+    fn add_term(
+        &self,
+        code: &mut Items<FlatCmd>,
+        e: &Expr,
+        target: Option<u32>,
+        t: u32,
+    ) -> Result<u32, AllocError>
         requires { HasTermRoom t (term_of e.now) }
-        ensures code { OnOk result (Writes code.old code.new (code_of_term self.now (term_of e.now) t)) }
+        ensures holder { IfOk result (λ n. n ≡ holder_of_term self.now (term_of e.now) target t) }
+        ensures code { OnOk result (Writes code.old code.new (code_of_term self.now (term_of e.now) target t)) }
         ensures well_formed { OnOk result (IsTerm (term_of e.now)) }
     {
         match e {
-            Expr::Literal(value) => add(
-                code,
-                FlatCmd::Literal {
-                    target: t,
-                    value: word(*value),
-                },
-            ),
-            Expr::Var(name) => add(
-                code,
-                FlatCmd::Assign {
-                    target: t,
-                    source: self.number(name),
-                },
-            ),
+            Expr::Literal(value) => {
+                let (target, value) = (target.unwrap_or(t), word(*value));
+                add(code, FlatCmd::Literal { target, value })?;
+                Ok(target)
+            }
+            Expr::Var(name) => self.add_variable(code, name, target),
             Expr::Load { width, address } => {
-                self.add_term(code, address.get(), t)?;
+                let address = self.add_term(code, address.get(), None, t)?;
+                let (width, target) = (*width, target.unwrap_or(t));
                 add(
                     code,
                     FlatCmd::Load {
-                        width: *width,
-                        target: t,
-                        address: t,
+                        width,
+                        target,
+                        address,
                     },
-                )
+                )?;
+                Ok(target)
             }
             Expr::Binary { op, left, right } => {
-                self.add_term(code, left.get(), t)?;
-                self.add_term(code, right.get(), t + 1)?;
+                let left = self.add_term(code, left.get(), None, t)?;
+                let right = self.add_term(code, right.get(), None, t + 1)?;
+                let (op, target) = (*op, target.unwrap_or(t));
                 add(
                     code,
                     FlatCmd::Binary {
-                        op: *op,
-                        target: t,
-                        left: t,
-                        right: t + 1,
+                        op,
+                        target,
+                        left,
+                        right,
                     },
-                )
+                )?;
+                Ok(target)
             }
         }
     }
 
-    // Adds the code of several expressions, whose values come into the variables from t on.
-    fn add_terms(&self, code: &mut Items<FlatCmd>, es: &[Expr], t: u32) -> Result<(), AllocError>
+    // Adds a copy of a variable to the target, if there is one, and gives the variable that has the value then.
+    fn add_variable(
+        &self,
+        code: &mut Items<FlatCmd>,
+        name: &Name,
+        target: Option<u32>,
+    ) -> Result<u32, AllocError>
+        ensures holder { IfOk result (λ n. n ≡ holder_of_term self.now (Variable name.now) target 0) }
+        ensures code { OnOk result ((t : ℕ) →
+            Writes code.old code.new (code_of_term self.now (Variable name.now) target t)) }
+        ensures well_formed { OnOk result (IsTerm (Variable name.now)) }
+    {
+        let source = self.number(name);
+        match target {
+            None => Ok(source),
+            Some(target) => {
+                add(code, FlatCmd::Assign { target, source })?;
+                Ok(target)
+            }
+        }
+    }
+
+    // Adds the code of several expressions, where the variables from t on are free, and gives those that have the values
+    // then.
+    fn add_terms(
+        &self,
+        code: &mut Items<FlatCmd>,
+        es: &[Expr],
+        t: u32,
+    ) -> Result<Items<u32>, AllocError>
         requires { HasTermsRoom t (map term_of es.now) }
+        ensures holders { IfOk result (λ numbers. numbers ≡ holders_of_terms self.now (map term_of es.now) t) }
         ensures code { OnOk result (Writes code.old code.new (code_of_terms self.now (map term_of es.now) t)) }
         ensures well_formed { OnOk result (All IsTerm (map term_of es.now)) }
     {
-        let mut target = t;
-        for e in es {
-            self.add_term(code, e, target)?;
-            target += 1;
-        }
-        Ok(())
-    }
-
-    // As many variables from t on as there are expressions.
-    fn temporaries(&self, es: &[Expr], t: u32) -> Result<Items<u32>, AllocError>
-        requires { HasTermsRoom t (map term_of es.now) }
-        ensures { IfOk result (λ numbers. numbers ≡ temporaries t (map term_of es.now)) }
-    {
         let mut numbers = Items::new(self.alloc);
-        let mut target = t;
-        for _e in es {
-            numbers.push(target)?;
-            target += 1;
+        let mut free = t;
+        for e in es {
+            numbers.push(self.add_term(code, e, None, free)?)?;
+            free += 1;
         }
         Ok(numbers)
     }
@@ -181,15 +201,9 @@ impl<'a> Scope<'a> {
             (Sets target.now (term_of value.now)))) }
         ensures well_formed { OnOk result (IsCommand (Sets target.now (term_of value.now))) }
     {
-        let t = self.first_temporary();
-        self.add_term(code, value, t)?;
-        add(
-            code,
-            FlatCmd::Assign {
-                target: self.number(target),
-                source: t,
-            },
-        )
+        let target = self.number(target);
+        self.add_term(code, value, Some(target), self.first_temporary())?;
+        Ok(())
     }
 
     // Adds the code of a store.
@@ -206,14 +220,14 @@ impl<'a> Scope<'a> {
         ensures well_formed { OnOk result (IsCommand (Stores width (term_of address.now) (term_of value.now))) }
     {
         let t = self.first_temporary();
-        self.add_term(code, address, t)?;
-        self.add_term(code, value, t + 1)?;
+        let address = self.add_term(code, address, None, t)?;
+        let value = self.add_term(code, value, None, t + 1)?;
         add(
             code,
             FlatCmd::Store {
                 width,
-                address: t,
-                value: t + 1,
+                address,
+                value,
             },
         )
     }
@@ -231,10 +245,8 @@ impl<'a> Scope<'a> {
             (Calls targets.now function.now (map term_of arguments.now)))) }
         ensures well_formed { OnOk result (IsCommand (Calls targets.now function.now (map term_of arguments.now))) }
     {
-        let t = self.first_temporary();
-        self.add_terms(code, arguments, t)?;
+        let arguments = self.add_terms(code, arguments, self.first_temporary())?;
         let targets = self.numbers(targets)?;
-        let arguments = self.temporaries(arguments, t)?;
         let function = place_of_function(self.functions, function.as_bytes());
         add(
             code,
@@ -259,10 +271,8 @@ impl<'a> Scope<'a> {
             (Interacts targets.now action (map term_of arguments.now)))) }
         ensures well_formed { OnOk result (IsCommand (Interacts targets.now action (map term_of arguments.now))) }
     {
-        let t = self.first_temporary();
-        self.add_terms(code, arguments, t)?;
+        let arguments = self.add_terms(code, arguments, self.first_temporary())?;
         let targets = self.numbers(targets)?;
-        let arguments = self.temporaries(arguments, t)?;
         add(
             code,
             FlatCmd::Interact {
@@ -306,20 +316,13 @@ impl<'a> Scope<'a> {
     ) -> Result<(), AllocError>
         requires { HasTermRoom (length self.now.names) (term_of condition.now) }
         ensures code { let t = length self.now.names in
-            OnOk result (Writes code.old code.new (λ rest. code_of_term self.now (term_of condition.now) t
-            (Sequence (Branch t (flat_block yes) (flat_block no)) rest))) }
+            let test = holder_of_term self.now (term_of condition.now) None t in
+            OnOk result (Writes code.old code.new (λ rest. code_of_term self.now (term_of condition.now) None t
+            (Sequence (Branch test (flat_block yes) (flat_block no)) rest))) }
         ensures well_formed { OnOk result (IsTerm (term_of condition.now)) }
     {
-        let t = self.first_temporary();
-        self.add_term(code, condition, t)?;
-        add(
-            code,
-            FlatCmd::If {
-                condition: t,
-                yes,
-                no,
-            },
-        )
+        let condition = self.add_term(code, condition, None, self.first_temporary())?;
+        add(code, FlatCmd::If { condition, yes, no })
     }
 
     // Adds the code of a loop round this body.
@@ -330,18 +333,19 @@ impl<'a> Scope<'a> {
         body: FlatBlock,
     ) -> Result<(), AllocError>
         requires { HasTermRoom (length self.now.names) (term_of condition.now) }
-        ensures code { let head = code_of_term self.now (term_of condition.now) (length self.now.names) Nothing in
-            OnOk result (Writes code.old code.new (Sequence (Loop head (length self.now.names) (flat_block body)))) }
+        ensures code { let t = length self.now.names in
+            let test = holder_of_term self.now (term_of condition.now) None t in
+            let head = code_of_term self.now (term_of condition.now) None t Nothing in
+            OnOk result (Writes code.old code.new (Sequence (Loop head test (flat_block body)))) }
         ensures well_formed { OnOk result (IsTerm (term_of condition.now)) }
     {
-        let t = self.first_temporary();
         let mut before = Items::new(self.alloc);
-        self.add_term(&mut before, condition, t)?;
+        let condition = self.add_term(&mut before, condition, None, self.first_temporary())?;
         add(
             code,
             FlatCmd::While {
                 before: closed(before),
-                condition: t,
+                condition,
                 body,
             },
         )
