@@ -2,8 +2,9 @@
 use crate::answer::expect_verdict;
 use std::test::Fail;
 
-// Variables are numbered in the order in which their names come first, then the values of expressions.
-const SUM: &str = "fn init() { x = 1; y = 2; x = (x + y); } fn loop() { }";
+// Variables are numbered in the order in which their names come first, then the values of expressions: that of the second 1
+// is variable 3.
+const SUM: &str = "fn init() { x = 1; y = (x + 1); x = (x + y); } fn loop() { }";
 
 #[test]
 fn judges_each_place(rt: HostRuntime) -> Result<(), Fail> {
@@ -11,10 +12,12 @@ fn judges_each_place(rt: HostRuntime) -> Result<(), Fail> {
         ("18 19 20 21;", true),
         // two that are live at once have one register, and two that aren't
         ("18 18 20 21;", false),
-        ("18 19 20 18;", true),
+        ("18 19 20 18;", false),
+        ("18 19 20 19;", true),
         // the same with a slot
         ("s0 s0 20 21;", false),
-        ("s0 19 20 s0;", true),
+        ("s0 19 20 s0;", false),
+        ("18 s1 20 s1;", true),
         ("s0 s1 s2 s3;", true),
         // slots are numbered below the number of variables, registers are 18 to 29
         ("18 19 20 s3;", true),

@@ -42,19 +42,20 @@ fn reaches_whole_frames(rt: HostRuntime) -> Result<(), Fail> {
 #[test]
 fn jumps_over_long_code(rt: HostRuntime) -> Result<(), Fail> {
     let alloc = rt.alloc();
-    let mut text = String::from_str(alloc, "fn init() { x = 0; while (x < 900) {")?;
-    add(&mut text, " x = (x + 1);", 300)?;
-    text.push_str(" } MMIOWRITE(0x1001200C, x); if (x == 900) {")?;
-    add(&mut text, " x = (x + 2);", 300)?;
+    // each sum takes 3 instructions, two of them for its literal: 350 sums take 4,200 bytes
+    let mut text = String::from_str(alloc, "fn init() { x = 0; while (x < 4301850) {")?;
+    add(&mut text, " x = (x + 4097);", 350)?;
+    text.push_str(" } MMIOWRITE(0x1001200C, x); if (x == 4301850) {")?;
+    add(&mut text, " x = (x + 8194);", 350)?;
     text.push_str(" } else {")?;
-    add(&mut text, " x = (x + 3);", 300)?;
+    add(&mut text, " x = (x + 4098);", 350)?;
     text.push_str(" } MMIOWRITE(0x1001200C, x); } fn loop() { x = MMIOREAD(0x10024048); }")?;
-    expect(&rt, alloc, text.as_str(), &[], "900 1500 wants")?;
+    expect(&rt, alloc, text.as_str(), &[], "4301850 7169750 wants")?;
     Ok(())
 }
 
 // Slots further from the stack pointer than an immediate reaches, and a loop over 64 KiB of code: 560 variables are set by
-// calls, and then a test for equality is done 51 times for each of 20 times that a number goes up.
+// calls, and then 49 tests for equality are done for each of 21 times that a number goes up.
 #[test]
 fn reaches_far_slots_and_jumps_over_64_kib(rt: HostRuntime) -> Result<(), Fail> {
     let alloc = rt.alloc();
@@ -66,21 +67,22 @@ fn reaches_far_slots_and_jumps_over_64_kib(rt: HostRuntime) -> Result<(), Fail> 
         let call = format!(in alloc; " a{i}, b{i}, c{i}, d{i}, e{i}, f{i}, g{i}, h{i} = f();")?;
         text.push_str(call.as_str())?;
     }
-    text.push_str(" x = 1; n = 0; while (n < 40) {")?;
-    for _ in 0..20 {
-        text.push_str(" n = (n + ")?;
-        add(&mut text, "(x == ", 49)?;
+    // the innermost test gives 1, the others but the outermost 0, and that gives 1
+    text.push_str(" x = 0x12345678; n = 0; while (n < 40) {")?;
+    for _ in 0..21 {
+        text.push_str(" n = (n + (0 == ")?;
+        add(&mut text, "(0x12345678 == ", 48)?;
         text.push_str("x")?;
-        add(&mut text, ")", 49)?;
-        text.push_str(");")?;
+        add(&mut text, ")", 48)?;
+        text.push_str("));")?;
     }
     text.push_str(
         " } MMIOWRITE(0x1001200C, n); MMIOWRITE(0x1001200C, (a0 + (10 * (h0 + (10 * (a69 + (10 * h69))))))); } fn loop() { x = MMIOREAD(0x10024048); }",
     )?;
     let emitted = compile_in_slots(alloc, text.as_str())?;
-    // the loop's body alone has 20 times 861 instructions
-    assert!(rt; emitted.code.len() > 17_220);
-    expect_of(&rt, alloc, &emitted, &[], "40 8181 wants")?;
-    expect(&rt, alloc, text.as_str(), &[], "40 8181 wants")?;
+    // the loop's body alone has 21 times 793 instructions
+    assert!(rt; emitted.code.len() > 16_653);
+    expect_of(&rt, alloc, &emitted, &[], "42 8181 wants")?;
+    expect(&rt, alloc, text.as_str(), &[], "42 8181 wants")?;
     Ok(())
 }

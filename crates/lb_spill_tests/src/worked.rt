@@ -20,62 +20,72 @@ fn places_worked_examples(rt: HostRuntime) -> Result<(), Fail> {
         (
             PLAIN,
             (0, 0),
-            "init 0 loop 1\nfn 7 [] [] { r30:=7 s3=r30 r30=s3 s0=r30 r30=s0 s3=r30 r30=s3 r30=load Four r30 s3=r30 r30=s3 s1=r30 r30=s0 s3=r30 r30=s1 s4=r30 r30=s3 r31=s4 store Two r30 r31 r30=s0 s3=r30 r30=s1 s4=r30 r30=s3 r31=s4 r30=r30 Sub r31 s3=r30 r30=s3 s2=r30 }\nfn 0 [] [] { }",
+            "init 0 loop 1\nfn 7 [] [] { r30:=7 s0=r30 r30=s0 r30=load Four r30 s1=r30 r30=s0 r31=s1 store Two r30 r31 r30=s0 r31=s1 r30=r30 Sub r31 s2=r30 }\nfn 0 [] [] { }",
         ),
         (
             PLAIN,
             (0, 12),
-            "init 0 loop 1\nfn 0 [] [] { r21:=7 r18=r21 r21=r18 r21=load Four r21 r19=r21 r21=r18 r22=r19 store Two r21 r22 r21=r18 r22=r19 r21=r21 Sub r22 r20=r21 }\nfn 0 [] [] { }",
+            "init 0 loop 1\nfn 0 [] [] { r18:=7 r19=load Four r18 store Two r18 r19 r20=r18 Sub r19 }\nfn 0 [] [] { }",
         ),
         (
             PLAIN,
             (3, 12),
-            "init 0 loop 1\nfn 3 [] [] { r21:=7 s0=r21 r21=s0 r21=load Four r21 s1=r21 r21=s0 r22=s1 store Two r21 r22 r21=s0 r22=s1 r21=r21 Sub r22 s2=r21 }\nfn 0 [] [] { }",
+            "init 0 loop 1\nfn 3 [] [] { r30:=7 s0=r30 r30=s0 r30=load Four r30 s1=r30 r30=s0 r31=s1 store Two r30 r31 r30=s0 r31=s1 r30=r30 Sub r31 s2=r30 }\nfn 0 [] [] { }",
         ),
         (
             PLAIN,
             (0, 3),
-            "init 0 loop 1\nfn 7 [] [] { r30:=7 s3=r30 r18=s3 s3=r18 r30=s3 r30=load Four r30 s3=r30 r19=s3 s3=r18 s4=r19 r30=s3 r31=s4 store Two r30 r31 s3=r18 s4=r19 r30=s3 r31=s4 r30=r30 Sub r31 s3=r30 r20=s3 }\nfn 0 [] [] { }",
+            "init 0 loop 1\nfn 7 [] [] { r18:=7 r19=load Four r18 store Two r18 r19 r20=r18 Sub r19 }\nfn 0 [] [] { }",
         ),
         (
             PLAIN,
             (3, 4),
-            "init 0 loop 1\nfn 7 [] [] { r21:=7 s0=r21 r21=s0 r21=load Four r21 s1=r21 r21=s0 r30=s1 s4=r30 r31=s4 store Two r21 r31 r21=s0 r30=s1 s4=r30 r31=s4 r21=r21 Sub r31 s2=r21 }\nfn 0 [] [] { }",
+            "init 0 loop 1\nfn 7 [] [] { r30:=7 s0=r30 r30=s0 r30=load Four r30 s1=r30 r30=s0 r31=s1 store Two r30 r31 r30=s0 r31=s1 r30=r30 Sub r31 s2=r30 }\nfn 0 [] [] { }",
+        ),
+        (
+            PLAIN,
+            (0, 1),
+            "init 0 loop 1\nfn 7 [] [] { r18:=7 r30=load Four r18 s1=r30 r31=s1 store Two r18 r31 r31=s1 r30=r18 Sub r31 s2=r30 }\nfn 0 [] [] { }",
+        ),
+        (
+            PLAIN,
+            (1, 2),
+            "init 0 loop 1\nfn 7 [] [] { r30:=7 s0=r30 r30=s0 r19=load Four r30 r30=s0 store Two r30 r19 r30=s0 r30=r30 Sub r19 s2=r30 }\nfn 0 [] [] { }",
         ),
         (
             BLOCKS,
             (0, 0),
-            "init 0 loop 1\nfn 2 [] [] { r30=alloc 8 { s0=r30 r30=s0 s1=r30 r30=s1 if r30 { } { r30:=1 s1=r30 r30=s1 s0=r30 } while { r30=s0 s1=r30 r30=s1 } r30 { r30:=0 s1=r30 r30=s1 s0=r30 } } }\nfn 0 [] [] { }",
+            "init 0 loop 1\nfn 2 [] [] { r30=alloc 8 { s0=r30 r30=s0 if r30 { } { r30:=1 s0=r30 } while { r30=s0 } r30 { r30:=0 s0=r30 } } }\nfn 0 [] [] { }",
         ),
         (
             BLOCKS,
             (0, 12),
-            "init 0 loop 1\nfn 0 [] [] { r18=alloc 8 { r19=r18 if r19 { } { r19:=1 r18=r19 } while { r19=r18 } r19 { r19:=0 r18=r19 } } }\nfn 0 [] [] { }",
+            "init 0 loop 1\nfn 0 [] [] { r18=alloc 8 { if r18 { } { r18:=1 } while { } r18 { r18:=0 } } }\nfn 0 [] [] { }",
         ),
         (
             BLOCKS,
             (0, 1),
-            "init 0 loop 1\nfn 2 [] [] { r18=alloc 8 { s1=r18 r30=s1 if r30 { } { r30:=1 s1=r30 r18=s1 } while { s1=r18 r30=s1 } r30 { r30:=0 s1=r30 r18=s1 } } }\nfn 0 [] [] { }",
+            "init 0 loop 1\nfn 2 [] [] { r18=alloc 8 { if r18 { } { r18:=1 } while { } r18 { r18:=0 } } }\nfn 0 [] [] { }",
         ),
         (
             BLOCKS,
             (1, 2),
-            "init 0 loop 1\nfn 1 [] [] { r30=alloc 8 { s0=r30 r19=s0 if r19 { } { r19:=1 s0=r19 } while { r19=s0 } r19 { r19:=0 s0=r19 } } }\nfn 0 [] [] { }",
+            "init 0 loop 1\nfn 1 [] [] { r30=alloc 8 { s0=r30 r30=s0 if r30 { } { r30:=1 s0=r30 } while { r30=s0 } r30 { r30:=0 s0=r30 } } }\nfn 0 [] [] { }",
         ),
         (
             CALLS,
             (0, 0),
-            "init 1 loop 2\nfn 5 [Slot(0), Slot(1)] [Slot(2), Slot(3)] { r30=s1 s4=r30 r30=s4 s2=r30 r30=s0 s4=r30 r30=s4 s3=r30 }\nfn 5 [] [] { r30:=1 s2=r30 r30:=2 s3=r30 [Slot(0), Slot(1)]=call 0 [Slot(2), Slot(3)] r30:=268509196 s2=r30 r30=s1 s3=r30 []=Write [Slot(2), Slot(3)] r30:=268509196 s2=r30 [Slot(1)]=Read [Slot(2)] }\nfn 0 [] [] { }",
+            "init 1 loop 2\nfn 5 [Slot(0), Slot(1)] [Slot(2), Slot(3)] { r30=s1 s2=r30 r30=s0 s3=r30 }\nfn 5 [] [] { r30:=1 s2=r30 r30:=2 s3=r30 [Slot(0), Slot(1)]=call 0 [Slot(2), Slot(3)] r30:=268509196 s2=r30 []=Write [Slot(2), Slot(1)] r30:=268509196 s2=r30 [Slot(1)]=Read [Slot(2)] }\nfn 0 [] [] { }",
         ),
         (
             CALLS,
             (0, 12),
-            "init 1 loop 2\nfn 0 [Register(18), Register(19)] [Register(20), Register(21)] { r22=r19 r20=r22 r22=r18 r21=r22 }\nfn 0 [] [] { r20:=1 r21:=2 [Register(18), Register(19)]=call 0 [Register(20), Register(21)] r20:=268509196 r21=r19 []=Write [Register(20), Register(21)] r20:=268509196 [Register(19)]=Read [Register(20)] }\nfn 0 [] [] { }",
+            "init 1 loop 2\nfn 0 [Register(18), Register(19)] [Register(20), Register(21)] { r20=r19 r21=r18 }\nfn 0 [] [] { r20:=1 r21:=2 [Register(18), Register(19)]=call 0 [Register(20), Register(21)] r20:=268509196 []=Write [Register(20), Register(19)] r20:=268509196 [Register(19)]=Read [Register(20)] }\nfn 0 [] [] { }",
         ),
         (
             CALLS,
             (1, 3),
-            "init 1 loop 2\nfn 5 [Slot(0), Register(19)] [Register(20), Slot(3)] { s4=r19 r20=s4 r30=s0 s4=r30 r30=s4 s3=r30 }\nfn 5 [] [] { r20:=1 r30:=2 s3=r30 [Slot(0), Register(19)]=call 0 [Register(20), Slot(3)] r20:=268509196 s3=r19 []=Write [Register(20), Slot(3)] r20:=268509196 [Register(19)]=Read [Register(20)] }\nfn 0 [] [] { }",
+            "init 1 loop 2\nfn 5 [Slot(0), Register(19)] [Register(20), Slot(3)] { r20=r19 r30=s0 s3=r30 }\nfn 5 [] [] { r20:=1 r30:=2 s3=r30 [Slot(0), Register(19)]=call 0 [Register(20), Slot(3)] r20:=268509196 []=Write [Register(20), Register(19)] r20:=268509196 [Register(19)]=Read [Register(20)] }\nfn 0 [] [] { }",
         ),
     ] {
         expect(&rt, rt.alloc(), text, registers, want)?;
