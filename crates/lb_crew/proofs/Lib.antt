@@ -1,0 +1,4 @@
+mod DrawLemmas
+mod EndLemmas
+mod KindLemmas
+mod ListLemmas

@@ -1,0 +1,17 @@
+-- What a crew makes of a machine.
+use Rattle.std.specs.Prelude.{◌≡◌, ◌<◌, ℕ, List, ◌++◌, All}
+use Rattle.lb_trace.specs.declared.Entry.{Entry}
+use Rattle.lb_machine.specs.Machines.{IsReplay, MachineContent}
+use Rattle.lb_crew.specs.Drawn.{HasEnded, IsDrawn}
+
+-- so many workers went on from the old machine until it ended: its job and its most entries stay,
+-- its log is legal, begins with the old one and replays to it; what was added is of workers below
+-- the number, and what a single one adds is decided by the seed
+pub record Finishes (seed workers : ℕ) (old new : MachineContent) : Type 0 where
+  pub fixed : new.fixed ≡ old.fixed
+  pub added : List Entry
+  pub begins : new.log ≡ old.log ++ added
+  pub workers_below : All (λ e. e.worker < workers) added
+  pub ended : HasEnded new
+  pub replay : IsReplay new
+  pub drawn : workers ≡ 1 → IsDrawn seed old new

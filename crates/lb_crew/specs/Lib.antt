@@ -1,0 +1,4 @@
+pub mod Crews
+pub mod Drawn
+pub mod InternalCrew
+pub mod InternalDraws

@@ -1,0 +1,9 @@
+//! Workers that fire a machine's kinds until its log is full or its core is halted: one alone, or several that race.
+#![tactic(auto)]
+
+mod alone;
+mod crew;
+mod draws;
+
+pub use alone::{serial, serial_until};
+pub use crew::{Crew, Serial};
