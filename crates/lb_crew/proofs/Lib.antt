@@ -1,3 +1,5 @@
+mod Crossing
+mod CrewLemmas
 mod DrawLemmas
 mod EndLemmas
 mod KindLemmas

@@ -1,5 +1,5 @@
 -- What a crew makes of a machine.
-use Rattle.std.specs.Prelude.{◌≡◌, ◌<◌, ℕ, List, ◌++◌, All}
+use Rattle.std.specs.Prelude.{◌≡◌, ◌≤◌, ◌<◌, ◌^◌, ℕ, List, ◌++◌, All, IfOk, Result}
 use Rattle.lb_trace.specs.declared.Entry.{Entry}
 use Rattle.lb_machine.specs.Machines.{IsReplay, MachineContent}
 use Rattle.lb_crew.specs.Drawn.{HasEnded, IsDrawn}
@@ -15,3 +15,17 @@ pub record Finishes (seed workers : ℕ) (old new : MachineContent) : Type 0 whe
   pub ended : HasEnded new
   pub replay : IsReplay new
   pub drawn : workers ≡ 1 → IsDrawn seed old new
+
+-- ---- crews as calls, of memory, a machine, workers and a seed
+
+-- the call may be made with any memory and machine, 1 to 8 workers and any seed
+abbrev pub MayCall : {A : Type 0} → (A → MachineContent → ℕ → ℕ → Type 0) → Type 0
+MayCall {A} may = (alloc : A) (machine : MachineContent) (workers seed : ℕ)
+    → 1 ≤ workers → workers ≤ 8 → seed < 2 ^ 32 → may alloc machine workers seed
+
+-- it finishes the machine where it answers one
+abbrev pub CallsFinish : {A E : Type 0}
+    → (A → MachineContent → ℕ → ℕ → Result MachineContent E → Type 0) → Type 0
+CallsFinish {A} {E} gives = (alloc : A) (machine : MachineContent) (workers seed : ℕ)
+    (result : Result MachineContent E) → 1 ≤ workers → workers ≤ 8 → seed < 2 ^ 32
+    → gives alloc machine workers seed result → IfOk result (Finishes seed workers machine)
