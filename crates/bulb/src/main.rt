@@ -1,8 +1,8 @@
 //! The program: it makes the real source and sink, calls the library and ends with its status.
 #![tactic(auto)]
 
-use lb_ports::{StdSink, StdSource};
-use lb_system::plain;
+use lb_ports::{OpenGate, StdSink, StdSource};
+use lb_system::bulb;
 use std::env;
 use std::io::ErrorKind;
 use std::process::ExitCode;
@@ -24,6 +24,6 @@ fn main(rt: HostRuntime) -> ExitCode {
     };
     let mut input = StdSource::new(rt.stdin());
     let mut output = StdSink::new(rt.stdout());
-    let ended = plain(rt.alloc(), &words, &mut input, &mut output);
+    let ended = bulb(&rt, rt.alloc(), &words, &mut input, &mut output, &OpenGate);
     ExitCode::from(ended.status)
 }

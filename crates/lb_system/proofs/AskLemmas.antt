@@ -1,6 +1,9 @@
 -- From what a part of a mode found to the first question whose answer is no, and to what is shown where all are yes.
 use Rattle.std.proofs.Common.{◌≡◌, inl, inr, ℕ, ◌≤◌, List, [], ◌∷◌, ◌++◌, length, None, refl, sym, ap, subst, ◌∙◌, true, false}
 use Rattle.std.specs.Prelude.{Err}
+use Rattle.lb_trace.specs.declared.Entry.{Entry}
+use Rattle.lb_trace.specs.declared.Event.{Event}
+use Rattle.lb_trace.specs.Frame.{FrameContent}
 use Rattle.lb_syntax.specs.Names.{Text}
 use Rattle.lb_syntax.specs.Tree.{Procedure}
 use Rattle.lb_syntax.specs.Rules.{KeepsRules}
@@ -14,10 +17,10 @@ use Rattle.lb_image.specs.Refusal.{FaultOf, IsOnlyImage}
 use Rattle.lb_lines.specs.declared.fault.LineError.{LineError}
 use Rattle.lb_lines.specs.declared.fault.LineError.TheVariants as line
 use Rattle.lb_lines.specs.Lines.{lines_of}
-use Rattle.lb_lines.proofs.SpellingLemmas.{one_replies}
+use Rattle.lb_lines.proofs.SpellingLemmas.{one_frames, one_log, one_replies, one_trace}
 use Rattle.lb_lines.specs.Form.{Explains as ExplainsLines}
-use Rattle.lb_lines.specs.Forms.{reply_form}
-use Rattle.lb_sections.specs.Sections.{sections, section, Explains}
+use Rattle.lb_lines.specs.Forms.{frame_form, log_form, reply_form, trace_form}
+use Rattle.lb_sections.specs.Sections.{Part, sections, section, Explains}
 use Rattle.lb_sections.specs.declared.cut.SectionsError.{SectionsError}
 use Rattle.lb_sections.specs.declared.cut.SectionsError.TheVariants as cut
 use Rattle.lb_sections.proofs.SectionLemmas.{too_many}
@@ -26,12 +29,16 @@ use Rattle.lb_words.specs.declared.job.Job.{Job}
 use Rattle.lb_words.specs.declared.job.Mode.TheVariants as mode
 use Rattle.lb_system.specs.declared.fault.Fault.{Fault}
 use Rattle.lb_system.specs.declared.fault.Fault.TheVariants as fault
+use Rattle.lb_system.specs.declared.fault.FormFault.TheVariants as form
 use Rattle.lb_system.specs.Report.{list_report}
 use Rattle.lb_system.specs.RunReport.{interp_report, isa_report}
 use Rattle.lb_system.specs.Views.{View, alone, with_image}
-use Rattle.lb_system.specs.Questions.{Case, Question, Sections, ImageFormat, Grammar, Rules, InForm, Replies, SaysReplies, HasLines, checked, listed, replied, source, AllHold}
+use Rattle.lb_system.specs.Questions.{Case, Question, Lines, Sections, ImageFormat, Grammar, Rules, InForm, Replies, Events, Frames, Entries, SaysReplies, SaysEvents, HasLines, checked, listed, replied, source, AllHold}
+use Rattle.lb_grammar.specs.declared.Verdict.{Verdict}
+use Rattle.lb_system.specs.MachineReport.{IsVerdict, verdict_text}
+use Rattle.lb_system.proofs.QuestionLemmas.{first_behind}
 use Rattle.lb_system.specs.Answers.{IsCheckReport, ShowsImage, ShowsListing}
-use Rattle.lb_system.specs.InternalAnswers.{IsModeAnswer, IsRefusalOf, IsOnly, IsOpened, LeavesGrammar, BreaksRules, case_of, without_image, sections_fault, image_fault, lines_fault}
+use Rattle.lb_system.specs.InternalAnswers.{IsModeAnswer, IsRefusalOf, IsOnly, IsOpened, LeavesForm, LeavesGrammar, BreaksRules, case_of, without_image, sections_fault, image_fault, lines_fault}
 
 -- ---- refusals
 
@@ -69,7 +76,7 @@ rules_refused most qs job input p fault.Write o h = absurd h
 rules_refused most qs job input p fault.TooLong o h = absurd h
 
 -- what is so of the program is so of every program of its text
-of_all : (P : List Procedure → Type 0) {text : Text} {p : List Procedure} → IsOnly text p → P p → (q : List Procedure) → IsAccepted q text → P q
+pub of_all : (P : List Procedure → Type 0) {text : Text} {p : List Procedure} → IsOnly text p → P p → (q : List Procedure) → IsAccepted q text → P q
 of_all P o h q a = subst P (sym (o.only q a)) h
 
 pub lines_refused : (job : Job) (input : Text) (p : List Procedure) (e : LineError) → IsOpened 2 input p → KeepsRules p
@@ -87,6 +94,36 @@ lines_refused job input p (line.Line f) o rules h =
     )
 lines_refused job input p line.Memory o rules h = inl (refl, refl)
 
+-- what lines that aren't in form leave
+pub frames_left : (part : Part) (e : LineError) → ExplainsLines frame_form (lines_of part.line part.text) e → LeavesForm Frames part (lines_fault e)
+frames_left part (line.Line f) h = (h, λ some. let values : List FrameContent = some.0 in one_frames.not_both (lines_of part.line part.text) values f some.1 h)
+frames_left part line.Memory h = tt
+
+pub log_left : (part : Part) (e : LineError) → ExplainsLines log_form (lines_of part.line part.text) e → LeavesForm Entries part (lines_fault e)
+log_left part (line.Line f) h = (h, λ some. let values : List Entry = some.0 in one_log.not_both (lines_of part.line part.text) values f some.1 h)
+log_left part line.Memory h = tt
+
+pub events_left : (part : Part) (e : LineError) → ExplainsLines trace_form (lines_of part.line part.text) e → LeavesForm Events part (lines_fault e)
+events_left part (line.Line f) h = (h, λ some. let values : List Event = some.0 in one_trace.not_both (lines_of part.line part.text) values f some.1 h)
+events_left part line.Memory h = tt
+
+-- behind questions whose answers are yes
+pub form_refused : (front rest : List Question) (lines : Lines) (place : ℕ) (job : Job) (input : Text) (f : Fault) → AllHold (case_of job input None) front
+    → LeavesForm lines (section place input) f → IsRefusalOf (front ++ InForm lines place ∷ rest) job input (without_image f)
+form_refused front rest lines place job input fault.Memory all h = inl (refl, refl)
+form_refused front rest lines place job input (fault.Form (form.Line f)) all h =
+    inr (tt, (InForm lines place, first_behind (case_of job input None) front rest (InForm lines place) all h.1, h.0), refl)
+form_refused front rest lines place job input (fault.Form (form.Section x)) all h = absurd h
+form_refused front rest lines place job input (fault.Form (form.Event x)) all h = absurd h
+form_refused front rest lines place job input (fault.Form (form.Image x)) all h = absurd h
+form_refused front rest lines place job input (fault.Text x) all h = absurd h
+form_refused front rest lines place job input (fault.Check x) all h = absurd h
+form_refused front rest lines place job input (fault.Limit x) all h = absurd h
+form_refused front rest lines place job input fault.Usage all h = absurd h
+form_refused front rest lines place job input fault.Read all h = absurd h
+form_refused front rest lines place job input fault.Write all h = absurd h
+form_refused front rest lines place job input fault.TooLong all h = absurd h
+
 pub image_refused : (job : Job) (input : Text) (e : ImageError) → FaultOf e input → IsOnlyImage input (Err e)
     → IsRefusalOf (listed true) job input (without_image (image_fault e))
 image_refused job input (image.Fault f) h only =
@@ -99,13 +136,13 @@ image_refused job input image.Memory h only = inl (refl, refl)
 opened_holds : (c : Case) (p : List Procedure) → IsOpened 1 c.input p → AllHold c (Sections 1 ∷ Grammar ∷ [])
 opened_holds c p o = (o.few, ((p, o.text.accepted), tt))
 
-checked_holds : (c : Case) (p : List Procedure) → IsOpened 1 c.input p → KeepsRules p → AllHold c (Sections 1 ∷ checked)
-checked_holds c p o rules = (o.few, ((p, o.text.accepted), (of_all KeepsRules o.text rules, tt)))
+pub checked_holds : (c : Case) (most : ℕ) (p : List Procedure) → IsOpened most c.input p → KeepsRules p → AllHold c (Sections most ∷ checked)
+checked_holds c most p o rules = (o.few, ((p, o.text.accepted), (of_all KeepsRules o.text rules, tt)))
 
 pub check_made : (job : Job) (input : Text) (p : List Procedure) (report : Text) (s : View) → IsOpened 1 input p → IsCheckReport p report → s ≡ alone report
     → IsModeAnswer mode.Check job input s
 check_made job input p report s o h e =
-    let it : IsModeAnswer mode.Check job input (alone report) = (checked_holds (case_of job input None) p o h.rules, (p, o.text.accepted, (h, refl))) in
+    let it : IsModeAnswer mode.Check job input (alone report) = (checked_holds (case_of job input None) 1 p o h.rules, (p, o.text.accepted, (h, refl))) in
     subst (IsModeAnswer mode.Check job input) (sym e) it
 
 pub print_made : (job : Job) (input : Text) (p : List Procedure) (report : Text) (s : View) → IsOpened 1 input p → report ≡ program_text p → s ≡ alone report
@@ -127,12 +164,12 @@ image_shown report p i text s compiled h e = (i, compiled, e ∙ ap (λ t. with_
 pub compile_made : (job : Job) (input : Text) (p : List Procedure) (i : Image) (text : Text) (s : View) → IsOpened 1 input p → IsCompiled p i
     → text ≡ image_bytes i → s ≡ with_image text i → IsModeAnswer mode.Compile job input s
 compile_made job input p i text s o compiled h e =
-    (checked_holds (case_of job input s.image) p o compiled.rules, (p, o.text.accepted, image_shown image_bytes p i text s compiled h e))
+    (checked_holds (case_of job input s.image) 1 p o compiled.rules, (p, o.text.accepted, image_shown image_bytes p i text s compiled h e))
 
 pub listed_made : (job : Job) (input : Text) (p : List Procedure) (i : Image) (text : Text) (s : View) → IsOpened 1 input p → IsCompiled p i
     → text ≡ list_report i → s ≡ with_image text i → AllHold (case_of job input s.image) (listed false) × ShowsListing false input s
 listed_made job input p i text s o compiled h e =
-    (checked_holds (case_of job input s.image) p o compiled.rules, (p, o.text.accepted, image_shown list_report p i text s compiled h e))
+    (checked_holds (case_of job input s.image) 1 p o compiled.rules, (p, o.text.accepted, image_shown list_report p i text s compiled h e))
 
 replied_holds : (c : Case) (p : List Procedure) (replies : List ℕ) → IsOpened 2 c.input p → KeepsRules p → SaysReplies (section 1 c.input) replies → AllHold c replied
 replied_holds c p replies o rules said = (o.few, ((p, o.text.accepted), (of_all KeepsRules o.text rules, ((replies, said), tt))))
@@ -150,3 +187,10 @@ isa_made job input p replies i text s o said compiled h e = (
   replied_holds (case_of job input s.image) p replies o compiled.rules said,
   (replies, said, (p, o.text.accepted, image_shown (isa_report job replies) p i text s compiled h e)),
 )
+
+-- ---- a verdict
+
+pub judge_made : (job : Job) (input : Text) (events : List Event) (verdict : Verdict) (text : Text) (s : View) → length (sections input) ≤ 1
+    → SaysEvents (section 0 input) events → IsVerdict events verdict → text ≡ verdict_text verdict → s ≡ alone text → IsModeAnswer mode.Judge job input s
+judge_made job input events verdict text s few said is h e =
+    ((few, ((events, said), tt)), (events, verdict, said, is, e ∙ ap alone h))

@@ -1,6 +1,11 @@
 pub mod AskLemmas
+pub mod CallLemmas
 pub mod IsaLemmas
 pub mod LineLemmas
+pub mod LogBounds
+pub mod MachineAnswers
+pub mod MachineReports
+pub mod Headlines
 pub mod QuestionLemmas
 pub mod ReportLemmas
 pub mod SectionBounds

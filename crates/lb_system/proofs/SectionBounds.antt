@@ -1,5 +1,5 @@
 -- Lines and bytes of sections are within those of the input.
-use Rattle.std.proofs.Common.{◌≡◌, ℕ, zero, suc, ◌+◌, ◌≤◌, ◌<◌, ◌^◌, Bool, true, false, List, [], ◌∷◌, ◌++◌, length, length-append, refl, sym, ap, subst, arith, cond}
+use Rattle.std.proofs.Common.{◌≡◌, ℕ, zero, suc, ◌+◌, ◌*◌, ◌≤◌, ◌<◌, ◌^◌, Bool, true, false, List, [], ◌∷◌, length, length-append, refl, sym, ap, subst, arith, cond}
 use Rattle.std.specs.Prelude.{◌==◌}
 use Rattle.std.specs.List.{concat, onto_first}
 use Rattle.lb_sections.specs.Sections.{Text, Part, is_mark, lines, part_at, section, sections_from}
@@ -68,6 +68,14 @@ few_lines (b ∷ bs) = go (b == 10) (few_lines bs)
 -- a section's last line has a number below 2^32
 pub section_within : (place : ℕ) (input : Text) → length input ≤ most_input → (section place input).line + length (section place input).text < 2 ^ 32
 section_within place input short =
+    let b = 1 + length (lines input) + length (concat (lines input)) in
+    let all = sections_within 1 b (lines input) (omega arith) in
+    let within = part_within 1 b place (sections_from 1 (lines input)) (omega arith) all in
+    omega (arith, within, short, few_lines input, ap length (concat_lines input))
+
+-- a section has no more bytes than an input may have
+pub section_short : (place : ℕ) (input : Text) → length input ≤ most_input → length (section place input).text ≤ 2 * most_input + 1
+section_short place input short =
     let b = 1 + length (lines input) + length (concat (lines input)) in
     let all = sections_within 1 b (lines input) (omega arith) in
     let within = part_within 1 b place (sections_from 1 (lines input)) (omega arith) all in

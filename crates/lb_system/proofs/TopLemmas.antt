@@ -1,5 +1,5 @@
 -- From what was found to what the top call tells.
-use Rattle.std.proofs.Common.{◌≡◌, ◌≢◌, inl, inr, ℕ, ◌≤◌, ◌<◌, Bool, true, false, List, [], ◌∷◌, ◌++◌, length, length-append, append-nil, Option, Some, None, refl, sym, ap, subst, ◌∙◌, arith}
+use Rattle.std.proofs.Common.{◌≡◌, ◌≢◌, ◌⊎◌, inl, inr, ◌≤◌, ◌<◌, Bool, true, false, List, [], ◌++◌, length, length-append, append-nil, Option, Some, None, refl, sym, ap, subst, ◌∙◌, arith}
 use Rattle.std.specs.Prelude.{IfSome}
 use Rattle.std.specs.Io.KnownBytes.{Consumes}
 use Rattle.std.proofs.KnownBytes.{Consumes-nil}
@@ -14,10 +14,10 @@ use Rattle.lb_system.specs.declared.answer.Refused.{Refused}
 use Rattle.lb_system.specs.Request.{IsRequest, AreInForm, modes}
 use Rattle.lb_system.specs.Faults.{TakesMemory}
 use Rattle.lb_system.specs.Views.{View}
-use Rattle.lb_system.specs.Questions.{Case, Question, AllHold, IsFirstNo, IsCause, Tells, asks, questions, reads}
+use Rattle.lb_system.specs.Questions.{Case, Question, Legal, AllHold, IsFirstNo, IsCause, Tells, asks, but_legal, questions, reads}
 use Rattle.lb_system.specs.Answers.{Known, Port, Failed, IsRead, IsLeft, IsCase, IsKnownCase, IsTooMuch, AskForInput, ReadFails, IsOfInput, HasCause, FitsImage, UnlessMemory, TellsOf, HasReport, ShowsForm, IsReport, WritesReport, most_input}
 use Rattle.lb_system.specs.InternalAnswers.{IsReason, IsRefusalOf, IsTold, case_of}
-use Rattle.lb_system.proofs.QuestionLemmas.{none_first, one_first}
+use Rattle.lb_system.proofs.QuestionLemmas.{none_first, one_first, only_legal}
 
 some_same : {X : Type 0} (x y : X) → Some x ≡ Some y → x ≡ y
 some_same x y e = cc
@@ -207,6 +207,19 @@ told_complete words source told i c t k all =
     elim (told_known words source told i c t k) [
       | inl memory ↦ memory
       | inr found ↦ (let r : Question = found.2.0 in absurd (none_first c (asks c) r all found.2.1))
+    ]
+
+-- where all but whether a log is legal are yes, that is told of
+pub told_replayed : (words : List Text) (source : Port) (told : Option Fault) (i : Option Image) (c : Case) → ToldReason words source told i → IsKnownCase words source i c
+    → AllHold c (but_legal (asks c)) → UnlessMemory told ((told ≡ None) ⊎ TellsOf c Legal told)
+told_replayed words source told i c t k all =
+    elim (told_known words source told i c t k) [
+      | inl memory ↦ inl memory
+      | inr found ↦ (
+          let f : Fault = found.0 in
+          let r : Question = found.2.0 in
+          inr (inr (f, found.1, subst (λ x. Tells c x f) (only_legal c (asks c) r all found.2.1) found.2.2))
+          )
     ]
 
 pub told_fits : (words : List Text) (source : Port) (f : Fault) (i : Option Image) → IsReason words source f i → FitsImage f i

@@ -11,7 +11,17 @@ use Rattle.lb_syntax.specs.Rules.{KeepsRules}
 use Rattle.lb_syntax.specs.Printing.{program_text}
 use Rattle.lb_image.specs.declared.image.Image.{Image}
 use Rattle.lb_image.specs.Images.{IsImage, image_bytes}
+use Rattle.lb_trace.specs.declared.Entry.{Entry}
+use Rattle.lb_trace.specs.declared.Event.{Event}
+use Rattle.lb_trace.specs.Frame.{FrameContent}
+use Rattle.lb_machine.specs.State.{Job as MachineJob}
+use Rattle.lb_machine.specs.Logs.{IsLegal}
+use Rattle.lb_machine.specs.Machines.{MachineContent, IsBooted}
+use Rattle.lb_crew.specs.Crews.{Finishes}
+use Rattle.lb_grammar.specs.declared.Verdict.{Verdict}
+use Rattle.lb_bulb.specs.Supplied.{supplied}
 use Rattle.lb_correctness.specs.Images.{IsCompiled}
+use Rattle.lb_correctness.specs.Machines.{job_on}
 use Rattle.lb_sections.specs.Sections.{section}
 use Rattle.lb_words.specs.declared.job.Job.{Job}
 use Rattle.lb_words.specs.declared.job.Mode.{Mode}
@@ -23,9 +33,10 @@ use Rattle.lb_system.specs.declared.top.Ended.{Ended}
 use Rattle.lb_system.specs.Request.{IsRequest}
 use Rattle.lb_system.specs.Report.{check_report, list_report}
 use Rattle.lb_system.specs.RunReport.{interp_report, isa_report}
+use Rattle.lb_system.specs.MachineReport.{IsMachineReport, IsLampReport, IsVerdict, verdict_text}
 use Rattle.lb_system.specs.Faults.{fault_line}
 use Rattle.lb_system.specs.Views.{View, alone, with_image, shown_by}
-use Rattle.lb_system.specs.Questions.{Case, Question, OfProgram, SaysReplies, Tells, AllHold, IsCause, asks, is_image, reads}
+use Rattle.lb_system.specs.Questions.{Case, Question, OfProgram, SaysReplies, SaysEvents, SaysFrames, SaysLog, Tells, AllHold, IsCause, asks, is_image, reads}
 
 -- ---- what each mode shows where every answer is yes
 
@@ -59,6 +70,48 @@ ShowsListing true input s =
     (i : Image) × IsImage i × (input ≡ image_bytes i) × (s ≡ alone (list_report i))
 ShowsListing false input s = OfProgram input (ShowsImage list_report s)
 
+-- a crew went on from boot, with a log of at most as many entries as the job has events, until the log
+-- was full or the core halted
+pub record IsCrewsLog (job : Job) (on : MachineJob) (log : List Entry) : Type 0 where
+  pub booted : MachineContent
+  pub ended : MachineContent
+  pub boots : IsBooted on job.events booted
+  pub finishes : Finishes job.seed job.workers booted ended
+  pub made : log ≡ ended.log
+
+-- the log is legal, and the third section says it
+abbrev pub IsReadLog : Text → MachineJob → List Entry → Type 0
+IsReadLog input on log = SaysLog (section 2 input) log × IsLegal on log
+
+-- what is shown of a program whose image runs on the machine while these frames arrive: a log of this
+-- kind, and this report on it
+pub record ShowsMachine (IsLog : MachineJob → List Entry → Type 0)
+    (IsTold : MachineJob → List Entry → Text → Type 0) (frames : List FrameContent) (s : View)
+    (p : List Procedure) : Type 0 where
+  pub i : Image
+  pub compiled : IsCompiled p i
+  pub shown : s.image ≡ Some i
+  pub made : IsLog (job_on i frames) s.log
+  pub told : IsTold (job_on i frames) s.log s.report
+
+-- of the source's program, while the frames of the second section arrive
+abbrev pub ShowsRun : (MachineJob → List Entry → Type 0) → Job → Text → View → Type 0
+ShowsRun IsLog job input s =
+    (frames : List FrameContent) × SaysFrames (section 1 input) frames
+    × OfProgram input (ShowsMachine IsLog (IsMachineReport job) frames s)
+
+-- of the supplied program, while the frames of the only section arrive
+abbrev pub ShowsLamp : Job → Text → View → Type 0
+ShowsLamp job input s =
+    (frames : List FrameContent) × SaysFrames (section 0 input) frames
+    × ShowsMachine (IsCrewsLog job) (IsLampReport job) frames s supplied
+
+-- the verdict on the events that the only section says
+abbrev pub ShowsVerdict : Text → View → Type 0
+ShowsVerdict input s =
+    (events : List Event) × (verdict : Verdict) × SaysEvents (section 0 input) events
+    × IsVerdict events verdict × (s ≡ alone (verdict_text verdict))
+
 -- what each mode shows of its input
 abbrev pub ModeShows : Mode → Job → Text → View → Type 0
 ModeShows mode.Check job input s = OfProgram input (ShowsNeeds s)
@@ -67,6 +120,10 @@ ModeShows mode.Compile job input s = OfProgram input (ShowsImage image_bytes s)
 ModeShows mode.List job input s = ShowsListing (is_image input) input s
 ModeShows mode.Interp job input s = ShowsReplied (interp_report job) input s
 ModeShows mode.Isa job input s = ShowsReplied (λ p. isa_report job) input s
+ModeShows mode.Run job input s = ShowsRun (IsCrewsLog job) job input s
+ModeShows mode.Lamp job input s = ShowsLamp job input s
+ModeShows mode.Replay job input s = ShowsRun (IsReadLog input) job input s
+ModeShows mode.Judge job input s = ShowsVerdict input s
 ModeShows _ job input s = ⊥
 
 abbrev pub Shows : Job → Text → View → Type 0

@@ -11,7 +11,12 @@ use Rattle.lb_image.specs.declared.error.ImageError.{ImageError}
 use Rattle.lb_image.specs.declared.error.ImageError.TheVariants as image
 use Rattle.lb_lines.specs.declared.fault.LineError.{LineError}
 use Rattle.lb_lines.specs.declared.fault.LineError.TheVariants as line
-use Rattle.lb_sections.specs.Sections.{sections}
+use Rattle.lb_trace.specs.declared.Entry.{Entry}
+use Rattle.lb_machine.specs.State.{Job as MachineJob}
+use Rattle.lb_machine.specs.Logs.{IsFirstRefused, most_entries}
+use Rattle.lb_machine.specs.Machines.{MachineContent, IsBooted}
+use Rattle.lb_crew.specs.Crews.{Finishes}
+use Rattle.lb_sections.specs.Sections.{Part, sections}
 use Rattle.lb_sections.specs.declared.cut.SectionsError.{SectionsError}
 use Rattle.lb_sections.specs.declared.cut.SectionsError.TheVariants as cut
 use Rattle.lb_words.specs.declared.job.Job.{Job}
@@ -23,7 +28,7 @@ use Rattle.lb_system.specs.declared.answer.Refused.{Refused}
 use Rattle.lb_system.specs.Request.{AreInForm}
 use Rattle.lb_system.specs.Faults.{IsLimit, TakesMemory}
 use Rattle.lb_system.specs.Views.{View}
-use Rattle.lb_system.specs.Questions.{Case, Question, questions, mode_questions, source, AllHold, IsCauseOf, BreaksRule, BreaksLimit}
+use Rattle.lb_system.specs.Questions.{Case, Question, Lines, HasLines, IsLineFault, questions, mode_questions, source, AllHold, IsCauseOf, BreaksRule, BreaksLimit}
 use Rattle.lb_system.specs.Answers.{Port, Shows, ModeShows, AskForInput, ReadFails, IsOfInput, HasCause, FitsImage, most_input}
 
 -- the job's case, with this image
@@ -89,6 +94,36 @@ image_fault image.Memory = fault.Memory
 abbrev pub lines_fault : LineError → Fault
 lines_fault (line.Line f) = fault.Form (form.Line f)
 lines_fault line.Memory = fault.Memory
+
+-- why the lines of a section aren't in form
+abbrev pub LeavesForm : Lines → Part → Fault → Type 0
+LeavesForm lines part fault.Memory = Unit {0}
+LeavesForm lines part (fault.Form (form.Line f)) =
+    IsLineFault lines part f × (¬ (HasLines lines part))
+LeavesForm lines part _ = ⊥
+
+-- why a log isn't replayed
+abbrev pub RefusesLog : MachineJob → List Entry → Fault → Type 0
+RefusesLog on log fault.Memory = Unit {0}
+RefusesLog on log (fault.Form (form.Event at)) = IsFirstRefused on log at
+RefusesLog on log _ = ⊥
+
+-- the refusal of a log: the image is shown with an entry that can't be fired
+abbrev pub refused_log : Fault → Image → Refused
+refused_log fault.Memory i = without_image fault.Memory
+refused_log f i = record { fault = f; image = Some i }
+
+-- the machine is that of the job, and a crew went on from boot until it ended
+pub record IsCrewsMachine (job : Job) (on : MachineJob) (m : MachineContent) : Type 0 where
+  pub booted : MachineContent
+  pub boots : IsBooted on job.events booted
+  pub finishes : Finishes job.seed job.workers booted m
+
+-- the job's numbers are in their ranges
+pub record IsInRange (job : Job) : Type 0 where
+  pub events : job.events ≤ most_entries
+  pub some : 1 ≤ job.workers
+  pub few : job.workers ≤ 8
 
 -- the text is the program's alone
 pub record IsOnly (text : Text) (p : List Procedure) : Type 0 where

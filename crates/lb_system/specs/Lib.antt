@@ -2,8 +2,10 @@ pub mod Request
 pub mod Views
 pub mod Report
 pub mod RunReport
+pub mod MachineReport
 pub mod Faults
 pub mod Questions
 pub mod Answers
+pub mod Calls
 pub mod InternalAnswers
 pub mod Headline

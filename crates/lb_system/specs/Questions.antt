@@ -14,6 +14,9 @@ use Rattle.lb_check.specs.declared.fault.CheckFault.{CheckFault}
 use Rattle.lb_image.specs.declared.image.Image.{Image}
 use Rattle.lb_image.specs.Images.{IsImage, image_bytes}
 use Rattle.lb_image.specs.Fields.{fault_of}
+use Rattle.lb_machine.specs.Logs.{IsFirstRefused, IsLegal}
+use Rattle.lb_correctness.specs.Images.{IsCompiled}
+use Rattle.lb_correctness.specs.Machines.{job_on}
 use Rattle.lb_lines.specs.Lines.{lines_of}
 use Rattle.lb_lines.specs.Form.{Say, IsFirstOutside}
 use Rattle.lb_lines.specs.Forms.{reply_form, trace_form, frame_form, log_form}
@@ -37,14 +40,15 @@ pub data Lines : Type 0 where
   Entries : Lines
 
 -- What is asked of an input, in the order of the statuses: that it has no more sections than these; that
--- it is an image; that its source is accepted, as a program; that this program keeps the rules; that the section at a place has lines in form. That a log can
--- be fired is asked behind these, once there is a machine.
+-- it is an image; that its source is accepted, as a program; that this program keeps the rules; that the
+-- section at a place has lines in form; that the log of the third section is legal for the machine
 pub data Question : Type 0 where
   Sections : (most : ℕ) → Question
   ImageFormat : Question
   Grammar : Question
   Rules : Question
   InForm : (lines : Lines) → (place : ℕ) → Question
+  Legal : Question
 
 -- the input begins as an image does
 abbrev pub is_image : Text → Bool
@@ -57,6 +61,14 @@ checked = Grammar ∷ Rules ∷ []
 -- of a source that is run with the replies of a second section
 abbrev pub replied : List Question
 replied = Sections 2 ∷ (checked ++ InForm Replies 1 ∷ [])
+
+-- of a source that is run on the machine, while the frames of a second section arrive
+abbrev pub framed : List Question
+framed = Sections 2 ∷ (checked ++ InForm Frames 1 ∷ [])
+
+-- of a source whose machine replays the log of a third section
+abbrev pub logged : List Question
+logged = Sections 3 ∷ (checked ++ InForm Frames 1 ∷ InForm Entries 2 ∷ Legal ∷ [])
 
 -- of what is listed: an image, or a source
 abbrev pub listed : Bool → List Question
@@ -71,6 +83,10 @@ mode_questions mode.Compile input = Sections 1 ∷ checked
 mode_questions mode.List input = listed (is_image input)
 mode_questions mode.Interp input = replied
 mode_questions mode.Isa input = replied
+mode_questions mode.Run input = framed
+mode_questions mode.Lamp input = Sections 1 ∷ InForm Frames 0 ∷ []
+mode_questions mode.Replay input = logged
+mode_questions mode.Judge input = Sections 1 ∷ InForm Events 0 ∷ []
 mode_questions _ input = []
 
 abbrev pub questions : Job → Text → List Question
@@ -96,17 +112,25 @@ pub record Case : Type 0 where
 abbrev pub source : Text → Text
 source input = (section 0 input).text
 
--- a section's lines say these replies
+-- a section's lines say these replies, accesses of devices, frames or entries of a log
 abbrev pub SaysReplies : Part → List ℕ → Type 0
 SaysReplies part replies = Say reply_form (lines_of part.line part.text) replies
+
+abbrev pub SaysEvents : Part → List Event → Type 0
+SaysEvents part events = Say trace_form (lines_of part.line part.text) events
+
+abbrev pub SaysFrames : Part → List FrameContent → Type 0
+SaysFrames part frames = Say frame_form (lines_of part.line part.text) frames
+
+abbrev pub SaysLog : Part → List Entry → Type 0
+SaysLog part log = Say log_form (lines_of part.line part.text) log
 
 -- a section's lines are in form
 abbrev pub HasLines : Lines → Part → Type 0
 HasLines Replies part = (values : List ℕ) × SaysReplies part values
-HasLines Events part = (values : List Event) × Say trace_form (lines_of part.line part.text) values
-HasLines Frames part =
-    (values : List FrameContent) × Say frame_form (lines_of part.line part.text) values
-HasLines Entries part = (values : List Entry) × Say log_form (lines_of part.line part.text) values
+HasLines Events part = (values : List Event) × SaysEvents part values
+HasLines Frames part = (values : List FrameContent) × SaysFrames part values
+HasLines Entries part = (values : List Entry) × SaysLog part values
 
 -- the first of them that isn't
 abbrev pub IsLineFault : Lines → Part → LineFault → Type 0
@@ -115,6 +139,14 @@ IsLineFault Events part f = IsFirstOutside trace_form (lines_of part.line part.t
 IsLineFault Frames part f = IsFirstOutside frame_form (lines_of part.line part.text) f
 IsLineFault Entries part f = IsFirstOutside log_form (lines_of part.line part.text) f
 
+-- what a replay is of: the image that was used, the frames of the second section, and the log of the
+-- third
+pub record IsReplayed (c : Case) (i : Image) (frames : List FrameContent) (log : List Entry)
+    : Type 0 where
+  pub used : c.image ≡ Some i
+  pub arriving : SaysFrames (section 1 c.input) frames
+  pub entries : SaysLog (section 2 c.input) log
+
 -- the answer is yes
 abbrev pub Holds : Case → Question → Type 0
 Holds c (Sections most) = length (sections c.input) ≤ most
@@ -122,6 +154,9 @@ Holds c ImageFormat = (i : Image) × IsImage i × (c.input ≡ image_bytes i)
 Holds c Grammar = (p : List Procedure) × IsAccepted p (source c.input)
 Holds c Rules = (p : List Procedure) → IsAccepted p (source c.input) → KeepsRules p
 Holds c (InForm lines place) = HasLines lines (section place c.input)
+Holds c Legal =
+    (i : Image) (frames : List FrameContent) (log : List Entry) → IsReplayed c i frames log
+    → IsLegal (job_on i frames) log
 
 -- the source is the text of a program, of which this is so
 abbrev pub OfProgram : Text → (List Procedure → Type 0) → Type 0
@@ -139,6 +174,16 @@ pub record BreaksLimit (f : CheckFault) (p : List Procedure) : Type 0 where
   pub first : IsFirstFault p f
   pub limit : IsLimit f
 
+-- the entry at this place is the first of the log that can't be fired on the image that was used, which
+-- is that of the source's program
+pub record RefusesEntry (c : Case) (place : ℕ) : Type 0 where
+  pub image : Image
+  pub frames : List FrameContent
+  pub log : List Entry
+  pub replayed : IsReplayed c image frames log
+  pub compiled : OfProgram c.input (λ p. IsCompiled p image)
+  pub first : IsFirstRefused (job_on image frames) log place
+
 -- what a fault tells of a question whose answer is no
 abbrev pub Tells : Case → Question → Fault → Type 0
 Tells c (Sections most) (fault.Form (form.Section line)) = IsFirstTooMany most c.input line
@@ -148,6 +193,7 @@ Tells c Rules (fault.Check f) = OfProgram c.input (BreaksRule f)
 Tells c Rules (fault.Limit f) = OfProgram c.input (BreaksLimit f)
 Tells c (InForm lines place) (fault.Form (form.Line f)) =
     IsLineFault lines (section place c.input) f
+Tells c Legal (fault.Form (form.Event at)) = RefusesEntry c at
 Tells c _ _ = ⊥
 
 -- ---- the order
@@ -172,3 +218,12 @@ IsCauseOf c qs f = (q : Question) × IsFirstNo c qs q × Tells c q f
 
 abbrev pub IsCause : Case → Fault → Type 0
 IsCause c f = IsCauseOf c (asks c) f
+
+-- all the questions but whether a log is legal
+abbrev pub unless_legal : Question → List Question → List Question
+unless_legal Legal qs = qs
+unless_legal q qs = q ∷ qs
+
+abbrev pub but_legal : List Question → List Question
+but_legal [] = []
+but_legal (q ∷ qs) = unless_legal q (but_legal qs)

@@ -8,7 +8,9 @@ use Rattle.lb_words.specs.Words.{Asks}
 
 -- the modes that there are so far
 abbrev pub modes : List Mode
-modes = mode.Check ∷ mode.Print ∷ mode.Compile ∷ mode.List ∷ mode.Interp ∷ mode.Isa ∷ []
+modes =
+    mode.Check ∷ mode.Print ∷ mode.Compile ∷ mode.List ∷ mode.Interp ∷ mode.Isa ∷ mode.Run
+    ∷ mode.Lamp ∷ mode.Replay ∷ mode.Judge ∷ []
 
 -- the words, the program's name first, ask for this job
 abbrev pub IsRequest : List Text → Job → Type 0

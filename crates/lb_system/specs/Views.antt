@@ -20,6 +20,10 @@ alone report = record { report = report; log = []; image = None }
 abbrev pub with_image : Text → Image → View
 with_image report i = record { report = report; log = []; image = Some i }
 
+-- a report of a machine that runs an image, and its log
+abbrev pub with_log : Text → List Entry → Image → View
+with_log report log i = record { report = report; log = log; image = Some i }
+
 -- what a call that ended so shows beside this report
 abbrev pub shown_by : Ended → Text → View
 shown_by e report = record { report = report; log = e.log.items; image = e.image }

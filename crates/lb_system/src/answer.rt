@@ -1,15 +1,18 @@
 // What is answered to a request on an input.
 ghost use Rattle.std.specs.Prelude.{◌≡◌, ◌≤◌, None, length, IfOk, IfErr, Contains};
+ghost use Rattle.lb_crew.specs.Crews.{CallsFinish, MayCall};
 ghost use Rattle.lb_system.specs.Request.{modes};
 ghost use Rattle.lb_system.specs.Questions.{questions};
 ghost use Rattle.lb_system.specs.Answers.{most_input};
-ghost use Rattle.lb_system.specs.InternalAnswers.{IsAnswer, IsRefusalOf, without_image};
+ghost use Rattle.lb_system.specs.InternalAnswers.{IsAnswer, IsInRange, IsRefusalOf, without_image};
 
 use crate::compiled::{compile_mode, interp_mode, isa_mode};
 use crate::fault::Fault;
-use crate::modes::{check_mode, list_mode, print_mode};
+use crate::machines::{lamp_mode, replay_mode, run_mode};
+use crate::modes::{check_mode, judge_mode, list_mode, print_mode};
 use crate::shown::Shown;
 use lb_image::Image;
+use lb_machine::Machine;
 use lb_words::{Job, Mode};
 use std::alloc::{AllocError, Global};
 
@@ -39,9 +42,17 @@ impl From<AllocError> for Refused {
     }
 }
 
-/// Does a job on an input.
-pub fn answer_to(alloc: Global, job: &Job, input: &[u8]) -> Result<Shown, Refused>
+/// Does a job on an input; the crew fires a machine's kinds.
+pub fn answer_to<F: Fn(Global, Machine, u8, u32) -> Result<Machine, AllocError>>(
+    alloc: Global,
+    crew: &F,
+    job: &Job,
+    input: &[u8],
+) -> Result<Shown, Refused>
     requires short { length input.now ≤ most_input }
+    requires range { IsInRange job.now }
+    requires callable { MayCall (F.pre crew.now) }
+    requires finishes { CallsFinish (F.post crew.now) }
     requires there { Contains modes job.now.mode }
     ensures made { IfOk result (IsAnswer job.now input.now) }
     ensures refused { IfErr result
@@ -54,6 +65,10 @@ pub fn answer_to(alloc: Global, job: &Job, input: &[u8]) -> Result<Shown, Refuse
         Mode::List => list_mode(alloc, job, input),
         Mode::Interp => interp_mode(alloc, job, input),
         Mode::Isa => isa_mode(alloc, job, input),
+        Mode::Run => run_mode(alloc, crew, job, input),
+        Mode::Lamp => lamp_mode(alloc, crew, job, input),
+        Mode::Replay => replay_mode(alloc, job, input),
+        Mode::Judge => judge_mode(alloc, job, input),
         _ => unreachable!(),
     }
 }

@@ -80,8 +80,8 @@ pub fn isa_mode(alloc: Global, job: &Job, input: &[u8]) -> Result<Shown, Refused
     Ok(Shown::with_image(alloc, report, image))
 }
 
-// The image of a program that keeps the rules.
-fn image_of(alloc: Global, checked: &Checked) -> Result<Image, AllocError>
+/// The image of a program that keeps the rules.
+pub fn image_of(alloc: Global, checked: &Checked) -> Result<Image, AllocError>
     ensures { IfOk result (IsCompiled (program_of checked.now)) }
 {
     // That the program keeps the rules is known by its type.

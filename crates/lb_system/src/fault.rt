@@ -13,7 +13,7 @@ pub enum FormFault {
     Section { line: u32 },
     /// A line of a later section, or of a mode without a source, is outside its form.
     Line(LineFault),
-    /// An entry of a log can't be fired; its place, from 0. No mode answers it so far.
+    /// An entry of a log can't be fired; the place of the first such entry, from 0.
     Event { at: u32 },
     /// It begins as an image, and is none.
     Image(ImageFault),

@@ -9,10 +9,13 @@ ghost use Rattle.lb_system.specs.InternalAnswers.{IsModeAnswer, IsModeRefusal, I
 use crate::answer::Refused;
 use crate::compiled::list_source;
 use crate::fault::{Fault, FormFault};
+use crate::machine_report::verdict_line;
 use crate::report::{check_report, list_report};
 use crate::shown::Shown;
-use crate::source::{open_checked, open_read};
+use crate::source::{cut, events_of, open_checked, open_read};
+use lb_grammar::judge;
 use lb_image::{ImageError, from_bytes};
+use lb_sections::section_at;
 use lb_text::print_program;
 use lb_words::Job;
 use std::alloc::Global;
@@ -72,6 +75,24 @@ fn list_image(alloc: Global, job: &Job, input: &[u8]) -> Result<Shown, Refused>
         }
         Err(error) => Err(Refused::without_image(image_fault(error))),
     }
+}
+
+/// Judges the accesses of devices that the input says.
+pub fn judge_mode(alloc: Global, job: &Job, input: &[u8]) -> Result<Shown, Refused>
+    requires { length input.now ≤ most_input }
+    ensures made { IfOk result (IsModeAnswer mode.Judge job.now input.now) }
+    ensures refused { IfErr result (IsModeRefusal mode.Judge job.now input.now) }
+{
+    let list = match cut(alloc, input, 1) {
+        Ok(list) => list,
+        Err(refused) => return Err(refused),
+    };
+    let events = match events_of(alloc, &section_at(&list, 0)) {
+        Ok(events) => events,
+        Err(fault) => return Err(Refused::without_image(fault)),
+    };
+    let report = verdict_line(alloc, judge(&events))?;
+    Ok(Shown::alone(alloc, report))
 }
 
 // The fault of bytes that are no image's.

@@ -2,24 +2,30 @@
 ghost use Rattle.std.specs.Prelude.{◌≡◌, IfOk, IsErrOf, Contains, map, string_bytes};
 ghost use Rattle.lb_system.specs.Request.{AreInForm, IsRequest, modes};
 ghost use Rattle.lb_system.specs.Questions.{reads};
+ghost use Rattle.lb_system.specs.InternalAnswers.{IsInRange};
 
 use lb_words::{Job, JobError, Mode, job_of};
 use std::alloc::Global;
 
 /// The modes that there are so far.
-const MODES: [Mode; 6] = [
+const MODES: [Mode; 10] = [
     Mode::Check,
     Mode::Print,
     Mode::Compile,
     Mode::List,
     Mode::Interp,
     Mode::Isa,
+    Mode::Run,
+    Mode::Lamp,
+    Mode::Replay,
+    Mode::Judge,
 ];
 
 /// What the words ask for, the program's name being the first of them.
 pub fn request_of(alloc: Global, words: &[String]) -> Result<Job, JobError>
     ensures asked { IfOk result (IsRequest (map string_bytes words.now)) }
     ensures there { IfOk result (λ job. Contains modes job.mode) }
+    ensures range { IfOk result IsInRange }
     ensures usage { IsErrOf result JobError.Usage → ¬ (AreInForm (map string_bytes words.now)) }
 {
     job_of(alloc, words, &MODES)

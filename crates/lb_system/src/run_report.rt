@@ -96,8 +96,8 @@ fn append_events(
     append_shown(text, shown, trace)
 }
 
-// Adds the events where they are shown.
-fn append_shown(text: &mut Vec<u8>, shown: bool, trace: &[Event]) -> Result<(), AllocError>
+/// Adds the events where they are shown.
+pub fn append_shown(text: &mut Vec<u8>, shown: bool, trace: &[Event]) -> Result<(), AllocError>
     ensures { OnOk result (text.new.items ≡ text.old.items ++ trace_part shown trace.now) }
 {
     if !shown {
@@ -125,8 +125,8 @@ fn end_words(end: SourceEnd) -> &'static [u8]
     }
 }
 
-// How a run of the code ended, in words.
-fn ending_words(ending: Ending) -> &'static [u8]
+/// How a run of the code ended, in words.
+pub fn ending_words(ending: Ending) -> &'static [u8]
     ensures { result.now ≡ ending_text ending }
 {
     match ending {

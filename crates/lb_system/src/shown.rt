@@ -24,7 +24,7 @@ impl Model for Shown {
 
 impl Shown {
     ghost use Rattle.std.specs.Prelude.{◌≡◌};
-    ghost use Rattle.lb_system.specs.Views.{alone, with_image};
+    ghost use Rattle.lb_system.specs.Views.{alone, with_image, with_log};
 
     /// A report and nothing else.
     pub fn alone(alloc: Global, report: Vec<u8>) -> Shown
@@ -44,6 +44,17 @@ impl Shown {
         Shown {
             report,
             log: Vec::new(alloc),
+            image: Some(image),
+        }
+    }
+
+    /// A report of a machine that runs an image, and its log.
+    pub fn with_log(report: Vec<u8>, log: Vec<Entry>, image: Image) -> Shown
+        ensures { result ≡ with_log report.items log.items image }
+    {
+        Shown {
+            report,
+            log,
             image: Some(image),
         }
     }

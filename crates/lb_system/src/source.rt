@@ -1,22 +1,23 @@
 // The source of an input, and the sections behind it.
-ghost use Rattle.std.specs.Prelude.{◌≡◌, ◌≤◌, ◌<◌, ◌∷◌, ◌++◌, [], ◌^◌, ℕ, List, length, map, IfOk, OnOk, IfErr, IsTrue, ◌↔◌};
+ghost use Rattle.std.specs.Prelude.{◌≡◌, ◌≤◌, ◌<◌, ◌+◌, ◌∷◌, ◌++◌, [], ◌^◌, ℕ, List, length, map, IfOk, OnOk, IfErr, IsTrue, ◌↔◌};
 ghost use Rattle.lb_syntax.specs.Tree.{program_of};
 ghost use Rattle.lb_syntax.specs.Rules.{KeepsRules};
 ghost use Rattle.lb_check.specs.Parts.{parts};
 ghost use Rattle.lb_sections.specs.Sections.{seen, section, sections};
 ghost use Rattle.lb_words.specs.declared.job.Job.{Job};
 ghost use Rattle.lb_system.specs.Faults.{IsLimit};
-ghost use Rattle.lb_system.specs.Questions.{Question, Sections, Grammar, SaysReplies, checked, replied};
+ghost use Rattle.lb_system.specs.Questions.{Question, Sections, Grammar, InForm, Frames, Entries, Events, SaysReplies, SaysFrames, SaysLog, SaysEvents, checked, replied};
 ghost use Rattle.lb_system.specs.Answers.{most_input};
-ghost use Rattle.lb_system.specs.InternalAnswers.{BreaksRules, IsOnly, IsOpened, IsRefusalOf, IsRuleFault, LeavesGrammar, lines_fault, sections_fault};
+ghost use Rattle.lb_system.specs.InternalAnswers.{BreaksRules, IsOnly, IsOpened, IsRefusalOf, IsRuleFault, LeavesForm, LeavesGrammar, lines_fault, sections_fault};
 
 use crate::answer::Refused;
 use crate::fault::{Fault, FormFault};
 use lb_check::{CheckError, CheckFault, Checked, check};
-use lb_lines::{LineError, read_replies};
+use lb_lines::{LineError, read_frames, read_log, read_replies, read_trace};
 use lb_sections::{Section, SectionsError, section_at, sections_of};
 use lb_syntax::Program;
 use lb_text::{ReadError, read_program};
+use lb_trace::{Entry, Event, Frame};
 use std::alloc::Global;
 
 /// The source, which keeps the rules, and all sections, of which there are at most so many.
@@ -59,6 +60,68 @@ pub fn open_replied(alloc: Global, input: &[u8]) -> Result<(Checked, Vec<u32>), 
     match read_replies(alloc, behind.text, behind.line) {
         Ok(replies) => Ok((program, replies)),
         Err(error) => Err(Refused::without_image(lines_fault(error))),
+    }
+}
+
+/// The source, which keeps the rules, the frames of the section behind it, and all sections, of which
+/// there are at most so many.
+pub fn open_framed<'a>(
+    alloc: Global,
+    input: &'a [u8],
+    most: u32,
+) -> Result<(Checked, Vec<Frame>, Vec<Section<'a>>), Refused>
+    requires short { length input.now ≤ most_input }
+    requires some { 1 ≤ most }
+    ensures opened { IfOk result (λ o. IsOpened most input.now (program_of o.0)) }
+    ensures rules { IfOk result (λ o. KeepsRules (program_of o.0)) }
+    ensures frames { IfOk result (λ o. SaysFrames (section 1 input.now) o.1.items) }
+    ensures list { IfOk result (λ o. map seen o.2.items ≡ sections input.now) }
+    ensures refused { IfErr result (λ r. (job : Job) (qs : List Question)
+        → IsRefusalOf (Sections most ∷ (checked ++ InForm Frames 1 ∷ qs)) job input.now r) }
+{
+    let (program, list) = match open_checked(alloc, input, most) {
+        Ok(opened) => opened,
+        Err(refused) => return Err(refused),
+    };
+    match frames_of(alloc, &section_at(&list, 1)) {
+        Ok(frames) => Ok((program, frames, list)),
+        Err(fault) => Err(Refused::without_image(fault)),
+    }
+}
+
+/// The frames that a section says.
+pub fn frames_of(alloc: Global, section: &Section<'_>) -> Result<Vec<Frame>, Fault>
+    requires { (seen section.now).line + length (seen section.now).text < 2 ^ 32 }
+    ensures read { IfOk result (λ frames. SaysFrames (seen section.now) frames.items) }
+    ensures refused { IfErr result (LeavesForm Frames (seen section.now)) }
+{
+    match read_frames(alloc, section.text, section.line) {
+        Ok(frames) => Ok(frames),
+        Err(error) => Err(lines_fault(error)),
+    }
+}
+
+/// The log that a section says.
+pub fn log_of(alloc: Global, section: &Section<'_>) -> Result<Vec<Entry>, Fault>
+    requires { (seen section.now).line + length (seen section.now).text < 2 ^ 32 }
+    ensures read { IfOk result (λ log. SaysLog (seen section.now) log.items) }
+    ensures refused { IfErr result (LeavesForm Entries (seen section.now)) }
+{
+    match read_log(alloc, section.text, section.line) {
+        Ok(log) => Ok(log),
+        Err(error) => Err(lines_fault(error)),
+    }
+}
+
+/// The accesses of devices that a section says.
+pub fn events_of(alloc: Global, section: &Section<'_>) -> Result<Vec<Event>, Fault>
+    requires { (seen section.now).line + length (seen section.now).text < 2 ^ 32 }
+    ensures read { IfOk result (λ events. SaysEvents (seen section.now) events.items) }
+    ensures refused { IfErr result (LeavesForm Events (seen section.now)) }
+{
+    match read_trace(alloc, section.text, section.line) {
+        Ok(events) => Ok(events),
+        Err(error) => Err(lines_fault(error)),
     }
 }
 

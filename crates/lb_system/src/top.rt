@@ -1,14 +1,16 @@
 // The top call.
-ghost use Rattle.std.specs.Prelude.{◌≡◌, ◌≢◌, ◌≤◌, ◌⊎◌, ℕ, [], List, length, Some, None, true, IfSome, IfOk, OnOk, IfErr, IsErrOf, map, string_bytes};
+ghost use Rattle.std.specs.Prelude.{◌≡◌, ◌≢◌, ◌≤◌, [], length, Some, IfOk, OnOk, IfErr, IsErrOf, map, string_bytes};
 ghost use Rattle.lb_ports.specs.Bytes.{ReadsUpTo, ReadsMoreThan};
-ghost use Rattle.lb_system.specs.Request.{AreInForm, IsRequest};
-ghost use Rattle.lb_system.specs.Faults.{fault_line, status_of};
+ghost use Rattle.lb_crew.specs.Crews.{CallsFinish, Finishes, MayCall};
 ghost use Rattle.lb_words.specs.declared.job.Job.{Job as Asked};
 ghost use Rattle.lb_words.specs.declared.job.Mode.TheVariants as mode;
-ghost use Rattle.lb_system.specs.Headline.{RunsItsImage};
+ghost use Rattle.lb_system.specs.Request.{IsRequest};
+ghost use Rattle.lb_system.specs.Faults.{fault_line, status_of};
 ghost use Rattle.lb_system.specs.Views.{shown_by};
-ghost use Rattle.lb_system.specs.Questions.{Case, Question, AllHold, IsFirstNo, asks, reads};
-ghost use Rattle.lb_system.specs.Answers.{Failed, HasCause, HasReport, IsKnownCase, IsOfInput, IsRead, IsReport, IsReported, IsTooMuch, ReadFails, ShowsForm, ShowsNothing, TellsOf, UnlessMemory, WritesLine, WritesReport, most_input, port};
+ghost use Rattle.lb_system.specs.Questions.{reads};
+ghost use Rattle.lb_system.specs.Answers.{HasReport, IsRead, IsReport, ReadFails, WritesLine, WritesReport, most_input, port};
+ghost use Rattle.lb_system.specs.Calls.{EndsRightly};
+ghost use Rattle.lb_system.specs.Headline.{RunsItsImage, RunsItsMachine, RunsMachine, RunsTheLamp};
 ghost use Rattle.lb_system.specs.InternalAnswers.{IsReason, IsTold};
 
 use crate::answer::{Refused, answer_to};
@@ -16,20 +18,26 @@ use crate::fault::Fault;
 use crate::line::{fixed_line, told_line};
 use crate::request::{has_input, request_of};
 use crate::shown::Shown;
+use lb_correctness::{lamp_keeps, machines_keep};
+use lb_crew::{Crew, Serial, race};
 use lb_image::Image;
-use lb_ports::{ReadAllFault, Sink, Source, read_all, write_all};
+use lb_machine::Machine;
+use lb_ports::{Gate, ReadAllFault, Sink, Source, read_all, write_all};
 use lb_trace::Entry;
 use lb_words::{Job, JobError};
 use std::alloc::{AllocError, Global};
+use std::sync::Wait;
+use std::thread::Threads;
 
 /// How a call ended.
 #[derive(Drop)]
 pub struct Ended {
     /// 0, or the status of the fault.
     pub status: u8,
-    /// The machine's log; empty so far.
+    /// The machine's log, in the modes that have one, where the status is 0 or 7; else it is empty.
     pub log: Vec<Entry>,
-    /// The compiled image that the call used; none unless the mode compiles and the status is 0 or 7.
+    /// The compiled image that the call used; none unless the mode compiles and the status is 0 or 7, or
+    /// an entry of a log couldn't be fired on it.
     pub image: Option<Image>,
     /// Why there is no whole report.
     pub fault: Option<Fault>,
@@ -38,62 +46,104 @@ pub struct Ended {
 const MOST_INPUT: u32 = 1_048_576;
 
 /// Does what the words say with what is read from `input`, and writes the report to `output`, or the
-/// line of the fault. It waits for nobody and always returns.
+/// line of the fault. In the modes `run` and `lamp` worker 0 does all, whatever the number of workers.
+/// It waits for nobody and always returns.
 pub fn plain<I: Source, O: Sink>(
     alloc: Global,
     words: &[String],
     input: &mut I,
     output: &mut O,
 ) -> Ended
-    ensures status { result.status ≡ status_of result.fault }
-
-    // The words are in form, unless the answer is that they aren't, or want of memory.
-    ensures usage { result.fault ≡ Some Fault.Usage → ¬ (AreInForm (map string_bytes words.now)) }
-    ensures unread { result.fault ≡ Some Fault.Usage → input.new ≡ input.old }
-    ensures in_form { ShowsForm result.fault → AreInForm (map string_bytes words.now) }
-
-    // The reading failed, or found too much, where the answer says so, and only there.
-    ensures read { result.fault ≡ Some Fault.Read
-        → ReadFails (port I.left I.faults input.old input.new) }
-    ensures steady { result.fault ≢ Some Fault.Read → I.faults input.new ≡ I.faults input.old }
-    ensures too_long { result.fault ≡ Some Fault.TooLong
-        → ReadsMoreThan (I.left input.old) (I.left input.new) most_input }
-    ensures long { (bytes : List ℕ)
-        → IsTooMuch (map string_bytes words.now) (port I.left I.faults input.old input.new) bytes
-        → UnlessMemory result.fault (result.fault ≡ Some Fault.TooLong) }
-    ensures memory { result.fault ≡ Some Fault.Memory
-        → ReadsUpTo (I.left input.old) (I.left input.new) most_input }
-
-    // A fault of what was read tells of the first question whose answer is no; where there is such a
-    // question, it is told of.
-    ensures cause { IfSome result.fault (λ f. IsOfInput f → HasCause (map string_bytes words.now)
-        (port I.left I.faults input.old input.new) result.image f) }
-    ensures told { (c : Case) (q : Question) → IsKnownCase (map string_bytes words.now)
-        (port I.left I.faults input.old input.new) result.image c
-        → IsFirstNo c (asks c) q → UnlessMemory result.fault (TellsOf c q result.fault) }
-
-    // The report; it is whole where all the answers are yes and nothing fails. What a run has to do
-    // with the program.
-    ensures report { HasReport result.fault
-        → IsReported (map string_bytes words.now) (port I.left I.faults input.old input.new)
+    ensures rightly { EndsRightly (map string_bytes words.now)
+        (port I.left I.faults input.old input.new)
         (port O.held O.faults output.old output.new) result }
-    ensures complete { (c : Case) → IsKnownCase (map string_bytes words.now)
-        (port I.left I.faults input.old input.new) result.image c
-        → AllHold c (asks c) → ¬ (Failed (port O.held O.faults output.old output.new))
-        → UnlessMemory result.fault (result.fault ≡ None) }
-    ensures headline { (job : Asked) → IsRequest (map string_bytes words.now) job
+    ensures unread { result.fault ≡ Some Fault.Usage → input.new ≡ input.old }
+    ensures isa { (job : Asked) → IsRequest (map string_bytes words.now) job
         → job.mode ≡ mode.Isa → HasReport result.fault
         → RunsItsImage job (port I.left I.faults input.old input.new)
         (port O.held O.faults output.old output.new) result }
-
-    // What comes in place of them.
-    ensures line { WritesLine (port O.held O.faults output.old output.new) result.fault }
-    ensures nothing { IfSome result.fault (λ f. ¬ (HasReport (Some f)) → ShowsNothing result f) }
-
-    ensures source { I.faults input.old ≤ I.faults input.new }
-    ensures sink { O.faults output.old ≤ O.faults output.new }
+    ensures machine { (job : Asked) → IsRequest (map string_bytes words.now) job
+        → RunsMachine job.mode → HasReport result.fault
+        → RunsItsMachine job (port I.left I.faults input.old input.new)
+        (port O.held O.faults output.old output.new) result }
+    ensures lamp { (job : Asked) → IsRequest (map string_bytes words.now) job
+        → job.mode ≡ mode.Lamp → HasReport result.fault
+        → RunsTheLamp job (port I.left I.faults input.old input.new)
+        (port O.held O.faults output.old output.new) result }
 {
-    match prepare(alloc, words, input) {
+    let crew = |alloc: Global, machine: Machine, workers: u8, seed: u32|
+        requires { (1 ≤ workers) × (workers ≤ 8) }
+        ensures { IfOk result (Finishes seed workers machine) }
+    { Serial.finish(alloc, machine, workers, seed) };
+    call(alloc, &crew, words, input, output)
+}
+
+/// The same, but in the modes `run` and `lamp` as many workers as the words say race to fire the
+/// machine's kinds, each on a thread of its own where there are two or more; each passes the gate before
+/// each of its tries. It waits for the workers.
+pub fn bulb<R: Threads + Wait + Sync, I: Source, O: Sink, G: Gate + Sync>(
+    rt: &R,
+    alloc: Global,
+    words: &[String],
+    input: &mut I,
+    output: &mut O,
+    gate: &G,
+) -> Ended
+    ensures rightly { EndsRightly (map string_bytes words.now)
+        (port I.left I.faults input.old input.new)
+        (port O.held O.faults output.old output.new) result }
+    ensures unread { result.fault ≡ Some Fault.Usage → input.new ≡ input.old }
+    ensures isa { (job : Asked) → IsRequest (map string_bytes words.now) job
+        → job.mode ≡ mode.Isa → HasReport result.fault
+        → RunsItsImage job (port I.left I.faults input.old input.new)
+        (port O.held O.faults output.old output.new) result }
+    ensures machine { (job : Asked) → IsRequest (map string_bytes words.now) job
+        → RunsMachine job.mode → HasReport result.fault
+        → RunsItsMachine job (port I.left I.faults input.old input.new)
+        (port O.held O.faults output.old output.new) result }
+    ensures lamp { (job : Asked) → IsRequest (map string_bytes words.now) job
+        → job.mode ≡ mode.Lamp → HasReport result.fault
+        → RunsTheLamp job (port I.left I.faults input.old input.new)
+        (port O.held O.faults output.old output.new) result }
+{
+    let crew = |alloc: Global, machine: Machine, workers: u8, seed: u32|
+        requires { (1 ≤ workers) × (workers ≤ 8) }
+        ensures { IfOk result (Finishes seed workers machine) }
+    { race(rt, alloc, machine, workers, seed, gate) };
+    call(alloc, &crew, words, input, output)
+}
+
+// Does what the words say; the crew fires the machine's kinds.
+fn call<F: Fn(Global, Machine, u8, u32) -> Result<Machine, AllocError>, I: Source, O: Sink>(
+    alloc: Global,
+    crew: &F,
+    words: &[String],
+    input: &mut I,
+    output: &mut O,
+) -> Ended
+    requires callable { MayCall (F.pre crew.now) }
+    requires finishes { CallsFinish (F.post crew.now) }
+    ensures rightly { EndsRightly (map string_bytes words.now)
+        (port I.left I.faults input.old input.new)
+        (port O.held O.faults output.old output.new) result }
+    ensures unread { result.fault ≡ Some Fault.Usage → input.new ≡ input.old }
+    ensures isa { (job : Asked) → IsRequest (map string_bytes words.now) job
+        → job.mode ≡ mode.Isa → HasReport result.fault
+        → RunsItsImage job (port I.left I.faults input.old input.new)
+        (port O.held O.faults output.old output.new) result }
+    ensures machine { (job : Asked) → IsRequest (map string_bytes words.now) job
+        → RunsMachine job.mode → HasReport result.fault
+        → RunsItsMachine job (port I.left I.faults input.old input.new)
+        (port O.held O.faults output.old output.new) result }
+    ensures lamp { (job : Asked) → IsRequest (map string_bytes words.now) job
+        → job.mode ≡ mode.Lamp → HasReport result.fault
+        → RunsTheLamp job (port I.left I.faults input.old input.new)
+        (port O.held O.faults output.old output.new) result }
+{
+    // What holds of every legal log, whoever made it.
+    machines_keep();
+    lamp_keeps();
+    match prepare(alloc, crew, words, input) {
         Ok(shown) => write_report(output, shown),
         Err(refused) => refuse(alloc, output, refused),
     }
@@ -179,7 +229,14 @@ fn status(fault: &Fault) -> u8
 }
 
 // Reads the words and the input, and does what is asked for.
-fn prepare<I: Source>(alloc: Global, words: &[String], input: &mut I) -> Result<Shown, Refused>
+fn prepare<F: Fn(Global, Machine, u8, u32) -> Result<Machine, AllocError>, I: Source>(
+    alloc: Global,
+    crew: &F,
+    words: &[String],
+    input: &mut I,
+) -> Result<Shown, Refused>
+    requires callable { MayCall (F.pre crew.now) }
+    requires finishes { CallsFinish (F.post crew.now) }
     ensures made { IfOk result (IsReport (map string_bytes words.now)
         (port I.left I.faults input.old input.new)) }
     ensures reason { IfErr result (λ r. IsReason (map string_bytes words.now)
@@ -201,7 +258,7 @@ fn prepare<I: Source>(alloc: Global, words: &[String], input: &mut I) -> Result<
         Err(ReadAllFault::TooLong) => return Err(Refused::without_image(Fault::TooLong)),
         Err(ReadAllFault::Memory) => return Err(Refused::without_image(Fault::Memory)),
     };
-    answer_to(alloc, &job, &bytes)
+    answer_to(alloc, crew, &job, &bytes)
 }
 
 // The input of a job; nothing is read where it has none.

@@ -1,7 +1,7 @@
 use Rattle.std.proofs.Common.{◌≡◌, map, sym, ap, subst, ◌∙◌, ◌∷◌, [], arith, length}
 use Rattle.lb_syntax.specs.Tree.{program_of}
 use Rattle.lb_sections.specs.Sections.{seen, part_at, section}
-use Rattle.lb_lines.specs.Form.{Explains, Say}
+use Rattle.lb_lines.specs.Form.{Explains}
 use Rattle.lb_lines.specs.Forms.{reply_form}
 use Rattle.lb_lines.specs.Lines.{lines_of}
 use Rattle.lb_system.specs.Questions.{InForm, Replies, SaysReplies, replied}
