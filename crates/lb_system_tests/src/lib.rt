@@ -15,6 +15,8 @@ mod lamp;
 #[cfg(test)]
 mod lists;
 #[cfg(test)]
+mod machines;
+#[cfg(test)]
 mod operations;
 #[cfg(test)]
 mod pieces;

@@ -146,7 +146,7 @@ const ROWS: [(&str, &str, u8, &str); 25] = [
 // Words that are no request.
 const WORDS: [&[&str]; 21] = [
     &["bulb", ""],
-    &["bulb", "run"],
+    &["bulb", "run", "--workers", "9"],
     &["bulb", "Check"],
     &["bulb", "PRINT"],
     &["bulb", "checks"],
@@ -161,7 +161,7 @@ const WORDS: [&[&str]; 21] = [
     &["bulb", "print", "1"],
     &["bulb", "Check", "1"],
     &["bulb", "", "check"],
-    &["bulb", "lamp"],
+    &["bulb", "lamp", "lamp"],
     &["bulb", "run", "run"],
     &["bulb", "run", "01"],
     &["bulb", "run", "--events"],

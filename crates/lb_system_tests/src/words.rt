@@ -22,7 +22,7 @@ const REFUSED: &str = "--help
 isa --events 0
 isa isa
 run 1000
-run
+run run
 check check
 check print
 check x
@@ -45,7 +45,7 @@ check --help
 check --version
 check -- --log
 help
-lamp
+lamp judge
 Check";
 
 // Whether the words of a line end so.

@@ -1,9 +1,11 @@
 // A call of the whole program over memory.
 ghost use Rattle.std.specs.Prelude.{◌≤◌};
 
-use lb_ports::{MemorySink, MemorySource};
-use lb_system::plain;
+use lb_ports::{Gate, MemorySink, MemorySource};
+use lb_system::{Ended, bulb, plain};
 use std::alloc::{AllocError, Global};
+use std::sync::Wait;
+use std::thread::Threads;
 
 /// What the call is handed, and how its source and its sink behave.
 #[derive(Drop)]
@@ -36,19 +38,40 @@ pub struct Answer {
     pub written: Vec<u8>,
     /// Whether an image was used.
     pub has_image: bool,
+    /// How many entries the log has.
+    pub entries: usize,
 }
 
-/// Makes the call.
+/// Makes the call by `plain`.
 pub fn call_plain(alloc: Global, call: &Call<'_>) -> Result<Answer, AllocError> {
     let words = words_of(alloc, call.words)?;
     let mut input = source_of(alloc, call)?;
     let mut sink = sink_of(alloc, call)?;
     let ended = plain(alloc, &words, &mut input, &mut sink);
+    answer_of(alloc, &ended, &sink)
+}
+
+/// Makes the call by `bulb`, with this gate.
+pub fn call_bulb<R: Threads + Wait + Sync, G: Gate + Sync>(
+    rt: &R,
+    alloc: Global,
+    call: &Call<'_>,
+    gate: &G,
+) -> Result<Answer, AllocError> {
+    let words = words_of(alloc, call.words)?;
+    let mut input = source_of(alloc, call)?;
+    let mut sink = sink_of(alloc, call)?;
+    let ended = bulb(rt, alloc, &words, &mut input, &mut sink, gate);
+    answer_of(alloc, &ended, &sink)
+}
+
+fn answer_of(alloc: Global, ended: &Ended, sink: &MemorySink) -> Result<Answer, AllocError> {
     let written = Vec::from_slice(alloc, sink.held())?;
     Ok(Answer {
         status: ended.status,
         written,
         has_image: ended.image.is_some(),
+        entries: ended.log.len(),
     })
 }
 
