@@ -146,6 +146,8 @@ const HALTING: [(&str, &str); 3] = [
     ),
 ];
 
+const REPLAY: [&str; 4] = ["bulb", "replay", "--log", "--trace"];
+
 // The words of a line, with a blank between them, behind the program's name.
 fn words_of<'a>(alloc: Global, line: &'a str) -> Result<Vec<&'a str>, AllocError> {
     let mut words = Vec::new(alloc);
@@ -292,8 +294,7 @@ fn replays<R: Abort + Threads + Wait + Sync>(
         let mut input = Vec::from_slice(alloc, source.as_bytes())?;
         input.extend_from_slice(b"\n%%\n%%\n")?;
         input.extend_from_slice(log_of(&a.written))?;
-        let words = ["bulb", "replay", "--log", "--trace"];
-        let again = call_plain(alloc, &call_of(&words, &input))?;
+        let again = call_plain(alloc, &call_of(&REPLAY, &input))?;
         assert_eq!(rt; again.status, 0, "of {run} {source}");
         assert!(rt; again.written == a.written, "of {run} {source}");
         assert_eq!(rt; again.entries, a.entries);
