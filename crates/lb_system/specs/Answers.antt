@@ -70,13 +70,19 @@ ShowsListing true input s =
     (i : Image) × IsImage i × (input ≡ image_bytes i) × (s ≡ alone (list_report i))
 ShowsListing false input s = OfProgram input (ShowsImage list_report s)
 
+-- how many workers fire a machine's kinds: one where it is alone, whatever the job says
+abbrev pub workers_of : Bool → Job → ℕ
+workers_of true job = 1
+workers_of false job = job.workers
+
 -- a crew went on from boot, with a log of at most as many entries as the job has events, until the log
 -- was full or the core halted
-pub record IsCrewsLog (job : Job) (on : MachineJob) (log : List Entry) : Type 0 where
+pub record IsCrewsLog (alone : Bool) (job : Job) (on : MachineJob) (log : List Entry)
+    : Type 0 where
   pub booted : MachineContent
   pub ended : MachineContent
   pub boots : IsBooted on job.events booted
-  pub finishes : Finishes job.seed job.workers booted ended
+  pub finishes : Finishes job.seed (workers_of alone job) booted ended
   pub made : log ≡ ended.log
 
 -- the log is legal, and the third section says it
@@ -101,10 +107,10 @@ ShowsRun IsLog job input s =
     × OfProgram input (ShowsMachine IsLog (IsMachineReport job) frames s)
 
 -- of the supplied program, while the frames of the only section arrive
-abbrev pub ShowsLamp : Job → Text → View → Type 0
-ShowsLamp job input s =
+abbrev pub ShowsLamp : Bool → Job → Text → View → Type 0
+ShowsLamp alone job input s =
     (frames : List FrameContent) × SaysFrames (section 0 input) frames
-    × ShowsMachine (IsCrewsLog job) (IsLampReport job) frames s supplied
+    × ShowsMachine (IsCrewsLog alone job) (IsLampReport job) frames s supplied
 
 -- the verdict on the events that the only section says
 abbrev pub ShowsVerdict : Text → View → Type 0
@@ -112,7 +118,7 @@ ShowsVerdict input s =
     (events : List Event) × (verdict : Verdict) × SaysEvents (section 0 input) events
     × IsVerdict events verdict × (s ≡ alone (verdict_text verdict))
 
--- what each mode shows of its input
+-- what each mode without a crew shows of its input
 abbrev pub ModeShows : Mode → Job → Text → View → Type 0
 ModeShows mode.Check job input s = OfProgram input (ShowsNeeds s)
 ModeShows mode.Print job input s = OfProgram input (ShowsText s)
@@ -120,14 +126,18 @@ ModeShows mode.Compile job input s = OfProgram input (ShowsImage image_bytes s)
 ModeShows mode.List job input s = ShowsListing (is_image input) input s
 ModeShows mode.Interp job input s = ShowsReplied (interp_report job) input s
 ModeShows mode.Isa job input s = ShowsReplied (λ p. isa_report job) input s
-ModeShows mode.Run job input s = ShowsRun (IsCrewsLog job) job input s
-ModeShows mode.Lamp job input s = ShowsLamp job input s
 ModeShows mode.Replay job input s = ShowsRun (IsReadLog input) job input s
 ModeShows mode.Judge job input s = ShowsVerdict input s
 ModeShows _ job input s = ⊥
 
-abbrev pub Shows : Job → Text → View → Type 0
-Shows job input s = ModeShows job.mode job input s
+-- and each mode
+abbrev pub CrewShows : Bool → Mode → Job → Text → View → Type 0
+CrewShows alone mode.Run job input s = ShowsRun (IsCrewsLog alone job) job input s
+CrewShows alone mode.Lamp job input s = ShowsLamp alone job input s
+CrewShows alone m job input s = ModeShows m job input s
+
+abbrev pub Shows : Bool → Job → Text → View → Type 0
+Shows alone job input s = CrewShows alone job.mode job input s
 
 -- ---- the input
 
@@ -249,11 +259,11 @@ ShowsForm _ = Unit {0}
 -- ---- what is shown and written
 
 -- in the case of the words and what was read all the answers are yes, and this is what is shown of it
-pub record IsReport (words : List Text) (source : Port) (s : View) : Type 0 where
+pub record IsReport (alone : Bool) (words : List Text) (source : Port) (s : View) : Type 0 where
   pub it : Case
   pub case : IsCase words source s.image it
   pub all : AllHold it (asks it)
-  pub shows : Shows it.job it.input s
+  pub shows : Shows alone it.job it.input s
 
 -- the text was written whole, or a part of it, and then the count of the sink's faults rose
 abbrev pub IsWrittenOrCut : Port → Text → Type 0
@@ -275,6 +285,6 @@ WritesReport sink (Some _) report = ⊥
 
 -- what a call that ended so shows is the report of what was asked for on what was read, and its text
 -- was written
-abbrev pub IsReported : List Text → Port → Port → Ended → Type 0
-IsReported words source sink e =
-    (text : Text) × IsReport words source (shown_by e text) × WritesReport sink e.fault text
+abbrev pub IsReported : Bool → List Text → Port → Port → Ended → Type 0
+IsReported alone words source sink e =
+    (text : Text) × IsReport alone words source (shown_by e text) × WritesReport sink e.fault text

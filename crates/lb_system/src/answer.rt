@@ -7,6 +7,7 @@ ghost use Rattle.lb_system.specs.Answers.{most_input};
 ghost use Rattle.lb_system.specs.InternalAnswers.{IsAnswer, IsInRange, IsRefusalOf, without_image};
 
 use crate::compiled::{compile_mode, interp_mode, isa_mode};
+use crate::crew::Crew;
 use crate::fault::Fault;
 use crate::machines::{lamp_mode, replay_mode, run_mode};
 use crate::modes::{check_mode, judge_mode, list_mode, print_mode};
@@ -45,16 +46,16 @@ impl From<AllocError> for Refused {
 /// Does a job on an input; the crew fires a machine's kinds.
 pub fn answer_to<F: Fn(Global, Machine, u8, u32) -> Result<Machine, AllocError>>(
     alloc: Global,
-    crew: &F,
+    crew: &Crew<F>,
     job: &Job,
     input: &[u8],
 ) -> Result<Shown, Refused>
     requires short { length input.now ≤ most_input }
     requires range { IsInRange job.now }
-    requires callable { MayCall (F.pre crew.now) }
-    requires finishes { CallsFinish (F.post crew.now) }
+    requires callable { MayCall (F.pre crew.now.finish) }
+    requires finishes { CallsFinish (F.post crew.now.finish) }
     requires there { Contains modes job.now.mode }
-    ensures made { IfOk result (IsAnswer job.now input.now) }
+    ensures made { IfOk result (IsAnswer crew.now.alone job.now input.now) }
     ensures refused { IfErr result
         (IsRefusalOf (questions job.now input.now) job.now input.now) }
 {

@@ -3,6 +3,7 @@
 
 mod answer;
 mod compiled;
+mod crew;
 mod fault;
 mod line;
 mod machine_report;

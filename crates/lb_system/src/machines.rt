@@ -9,10 +9,11 @@ ghost use Rattle.lb_crew.specs.Crews.{CallsFinish, MayCall};
 ghost use Rattle.lb_correctness.specs.Machines.{job_on};
 ghost use Rattle.lb_words.specs.declared.job.Mode.TheVariants as mode;
 ghost use Rattle.lb_system.specs.Answers.{most_input};
-ghost use Rattle.lb_system.specs.InternalAnswers.{IsCrewsMachine, IsInRange, IsModeAnswer, IsModeRefusal, RefusesLog, refused_log};
+ghost use Rattle.lb_system.specs.InternalAnswers.{IsCrewAnswer, IsCrewsMachine, IsInRange, IsModeAnswer, IsModeRefusal, RefusesLog, refused_log};
 
 use crate::answer::Refused;
 use crate::compiled::image_of;
+use crate::crew::{Crew, workers_of};
 use crate::fault::{Fault, FormFault};
 use crate::machine_report::{lamp_report, machine_report};
 use crate::shown::Shown;
@@ -28,15 +29,15 @@ use std::alloc::{AllocError, Global};
 /// Compiles the source, and lets a crew run its image on the machine.
 pub fn run_mode<F: Fn(Global, Machine, u8, u32) -> Result<Machine, AllocError>>(
     alloc: Global,
-    crew: &F,
+    crew: &Crew<F>,
     job: &Job,
     input: &[u8],
 ) -> Result<Shown, Refused>
     requires short { length input.now ≤ most_input }
     requires range { IsInRange job.now }
-    requires callable { MayCall (F.pre crew.now) }
-    requires finishes { CallsFinish (F.post crew.now) }
-    ensures made { IfOk result (IsModeAnswer mode.Run job.now input.now) }
+    requires callable { MayCall (F.pre crew.now.finish) }
+    requires finishes { CallsFinish (F.post crew.now.finish) }
+    ensures made { IfOk result (IsCrewAnswer crew.now.alone mode.Run job.now input.now) }
     ensures refused { IfErr result (IsModeRefusal mode.Run job.now input.now) }
 {
     let (program, frames, _) = match open_framed(alloc, input, 2) {
@@ -52,15 +53,15 @@ pub fn run_mode<F: Fn(Global, Machine, u8, u32) -> Result<Machine, AllocError>>(
 /// Lets a crew run the supplied program's image on the machine.
 pub fn lamp_mode<F: Fn(Global, Machine, u8, u32) -> Result<Machine, AllocError>>(
     alloc: Global,
-    crew: &F,
+    crew: &Crew<F>,
     job: &Job,
     input: &[u8],
 ) -> Result<Shown, Refused>
     requires short { length input.now ≤ most_input }
     requires range { IsInRange job.now }
-    requires callable { MayCall (F.pre crew.now) }
-    requires finishes { CallsFinish (F.post crew.now) }
-    ensures made { IfOk result (IsModeAnswer mode.Lamp job.now input.now) }
+    requires callable { MayCall (F.pre crew.now.finish) }
+    requires finishes { CallsFinish (F.post crew.now.finish) }
+    ensures made { IfOk result (IsCrewAnswer crew.now.alone mode.Lamp job.now input.now) }
     ensures refused { IfErr result (IsModeRefusal mode.Lamp job.now input.now) }
 {
     let list = match cut(alloc, input, 1) {
@@ -105,21 +106,21 @@ pub fn replay_mode(alloc: Global, job: &Job, input: &[u8]) -> Result<Shown, Refu
 // The machine that a crew is done with: the image runs on it from boot, while these frames arrive.
 fn finished<F: Fn(Global, Machine, u8, u32) -> Result<Machine, AllocError>>(
     alloc: Global,
-    crew: &F,
+    crew: &Crew<F>,
     job: &Job,
     image: &Image,
     frames: Vec<Frame>,
 ) -> Result<Machine, AllocError>
     requires range { IsInRange job.now }
-    requires callable { MayCall (F.pre crew.now) }
-    requires finishes { CallsFinish (F.post crew.now) }
+    requires callable { MayCall (F.pre crew.now.finish) }
+    requires finishes { CallsFinish (F.post crew.now.finish) }
     requires image { IsImage image.now }
     requires frames { IsScript frames.items }
-    ensures { IfOk result (IsCrewsMachine job.now (job_on image.now frames.items)) }
+    ensures { IfOk result (IsCrewsMachine crew.now.alone job.now (job_on image.now frames.items)) }
 {
     let code = image.code.as_slice();
     let machine = Machine::boot(alloc, code, image.entry, frames, job.events)?;
-    crew(alloc, machine, job.workers, job.seed)
+    (crew.finish)(alloc, machine, workers_of(crew.alone, job), job.seed)
 }
 
 // The machine with the image and these frames after a log.

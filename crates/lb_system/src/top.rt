@@ -1,5 +1,5 @@
 // The top call.
-ghost use Rattle.std.specs.Prelude.{◌≡◌, ◌≢◌, ◌≤◌, [], length, Some, IfOk, OnOk, IfErr, IsErrOf, map, string_bytes};
+ghost use Rattle.std.specs.Prelude.{◌≡◌, true, false, ◌≢◌, ◌≤◌, [], length, Some, IfOk, OnOk, IfErr, IsErrOf, map, string_bytes};
 ghost use Rattle.lb_ports.specs.Bytes.{ReadsUpTo, ReadsMoreThan};
 ghost use Rattle.lb_crew.specs.Crews.{CallsFinish, Finishes, MayCall};
 ghost use Rattle.lb_words.specs.declared.job.Job.{Job as Asked};
@@ -14,12 +14,13 @@ ghost use Rattle.lb_system.specs.Headline.{RunsItsImage, RunsItsMachine, RunsMac
 ghost use Rattle.lb_system.specs.InternalAnswers.{IsReason, IsTold};
 
 use crate::answer::{Refused, answer_to};
+use crate::crew::Crew;
 use crate::fault::Fault;
 use crate::line::{fixed_line, told_line};
 use crate::request::{has_input, request_of};
 use crate::shown::Shown;
 use lb_correctness::{lamp_keeps, machines_keep};
-use lb_crew::{Crew, Serial, race};
+use lb_crew::{Crew as _, Serial, race};
 use lb_image::Image;
 use lb_machine::Machine;
 use lb_ports::{Gate, ReadAllFault, Sink, Source, read_all, write_all};
@@ -54,7 +55,7 @@ pub fn plain<I: Source, O: Sink>(
     input: &mut I,
     output: &mut O,
 ) -> Ended
-    ensures rightly { EndsRightly (map string_bytes words.now)
+    ensures rightly { EndsRightly true (map string_bytes words.now)
         (port I.left I.faults input.old input.new)
         (port O.held O.faults output.old output.new) result }
     ensures unread { result.fault ≡ Some Fault.Usage → input.new ≡ input.old }
@@ -64,17 +65,21 @@ pub fn plain<I: Source, O: Sink>(
         (port O.held O.faults output.old output.new) result }
     ensures machine { (job : Asked) → IsRequest (map string_bytes words.now) job
         → RunsMachine job.mode → HasReport result.fault
-        → RunsItsMachine job (port I.left I.faults input.old input.new)
+        → RunsItsMachine true job (port I.left I.faults input.old input.new)
         (port O.held O.faults output.old output.new) result }
     ensures lamp { (job : Asked) → IsRequest (map string_bytes words.now) job
         → job.mode ≡ mode.Lamp → HasReport result.fault
-        → RunsTheLamp job (port I.left I.faults input.old input.new)
+        → RunsTheLamp true job (port I.left I.faults input.old input.new)
         (port O.held O.faults output.old output.new) result }
 {
-    let crew = |alloc: Global, machine: Machine, workers: u8, seed: u32|
+    let finish = |alloc: Global, machine: Machine, workers: u8, seed: u32|
         requires { (1 ≤ workers) × (workers ≤ 8) }
         ensures { IfOk result (Finishes seed workers machine) }
     { Serial.finish(alloc, machine, workers, seed) };
+    let crew = Crew {
+        finish,
+        alone: true,
+    };
     call(alloc, &crew, words, input, output)
 }
 
@@ -89,7 +94,7 @@ pub fn bulb<R: Threads + Wait + Sync, I: Source, O: Sink, G: Gate + Sync>(
     output: &mut O,
     gate: &G,
 ) -> Ended
-    ensures rightly { EndsRightly (map string_bytes words.now)
+    ensures rightly { EndsRightly false (map string_bytes words.now)
         (port I.left I.faults input.old input.new)
         (port O.held O.faults output.old output.new) result }
     ensures unread { result.fault ≡ Some Fault.Usage → input.new ≡ input.old }
@@ -99,31 +104,35 @@ pub fn bulb<R: Threads + Wait + Sync, I: Source, O: Sink, G: Gate + Sync>(
         (port O.held O.faults output.old output.new) result }
     ensures machine { (job : Asked) → IsRequest (map string_bytes words.now) job
         → RunsMachine job.mode → HasReport result.fault
-        → RunsItsMachine job (port I.left I.faults input.old input.new)
+        → RunsItsMachine false job (port I.left I.faults input.old input.new)
         (port O.held O.faults output.old output.new) result }
     ensures lamp { (job : Asked) → IsRequest (map string_bytes words.now) job
         → job.mode ≡ mode.Lamp → HasReport result.fault
-        → RunsTheLamp job (port I.left I.faults input.old input.new)
+        → RunsTheLamp false job (port I.left I.faults input.old input.new)
         (port O.held O.faults output.old output.new) result }
 {
-    let crew = |alloc: Global, machine: Machine, workers: u8, seed: u32|
+    let finish = |alloc: Global, machine: Machine, workers: u8, seed: u32|
         requires { (1 ≤ workers) × (workers ≤ 8) }
         ensures { IfOk result (Finishes seed workers machine) }
     { race(rt, alloc, machine, workers, seed, gate) };
+    let crew = Crew {
+        finish,
+        alone: false,
+    };
     call(alloc, &crew, words, input, output)
 }
 
 // Does what the words say; the crew fires the machine's kinds.
 fn call<F: Fn(Global, Machine, u8, u32) -> Result<Machine, AllocError>, I: Source, O: Sink>(
     alloc: Global,
-    crew: &F,
+    crew: &Crew<F>,
     words: &[String],
     input: &mut I,
     output: &mut O,
 ) -> Ended
-    requires callable { MayCall (F.pre crew.now) }
-    requires finishes { CallsFinish (F.post crew.now) }
-    ensures rightly { EndsRightly (map string_bytes words.now)
+    requires callable { MayCall (F.pre crew.now.finish) }
+    requires finishes { CallsFinish (F.post crew.now.finish) }
+    ensures rightly { EndsRightly crew.now.alone (map string_bytes words.now)
         (port I.left I.faults input.old input.new)
         (port O.held O.faults output.old output.new) result }
     ensures unread { result.fault ≡ Some Fault.Usage → input.new ≡ input.old }
@@ -133,11 +142,11 @@ fn call<F: Fn(Global, Machine, u8, u32) -> Result<Machine, AllocError>, I: Sourc
         (port O.held O.faults output.old output.new) result }
     ensures machine { (job : Asked) → IsRequest (map string_bytes words.now) job
         → RunsMachine job.mode → HasReport result.fault
-        → RunsItsMachine job (port I.left I.faults input.old input.new)
+        → RunsItsMachine crew.now.alone job (port I.left I.faults input.old input.new)
         (port O.held O.faults output.old output.new) result }
     ensures lamp { (job : Asked) → IsRequest (map string_bytes words.now) job
         → job.mode ≡ mode.Lamp → HasReport result.fault
-        → RunsTheLamp job (port I.left I.faults input.old input.new)
+        → RunsTheLamp crew.now.alone job (port I.left I.faults input.old input.new)
         (port O.held O.faults output.old output.new) result }
 {
     // What holds of every legal log, whoever made it.
@@ -231,13 +240,13 @@ fn status(fault: &Fault) -> u8
 // Reads the words and the input, and does what is asked for.
 fn prepare<F: Fn(Global, Machine, u8, u32) -> Result<Machine, AllocError>, I: Source>(
     alloc: Global,
-    crew: &F,
+    crew: &Crew<F>,
     words: &[String],
     input: &mut I,
 ) -> Result<Shown, Refused>
-    requires callable { MayCall (F.pre crew.now) }
-    requires finishes { CallsFinish (F.post crew.now) }
-    ensures made { IfOk result (IsReport (map string_bytes words.now)
+    requires callable { MayCall (F.pre crew.now.finish) }
+    requires finishes { CallsFinish (F.post crew.now.finish) }
+    ensures made { IfOk result (IsReport crew.now.alone (map string_bytes words.now)
         (port I.left I.faults input.old input.new)) }
     ensures reason { IfErr result (λ r. IsReason (map string_bytes words.now)
         (port I.left I.faults input.old input.new) r.fault r.image) }
