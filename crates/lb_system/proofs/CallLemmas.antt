@@ -12,6 +12,7 @@ use Rattle.lb_system.specs.Views.{shown_by}
 use Rattle.lb_system.specs.Answers.{Port, HasCause, HasReport, IsOfInput, IsReport, ReadFails, ShowsNothing, WritesLine, WritesReport, most_input}
 use Rattle.lb_system.specs.Calls.{EndsRightly}
 use Rattle.lb_system.specs.InternalAnswers.{IsReason, IsTold}
+use Rattle.lb_system.proofs.UnaskedLemmas.{told_unasked}
 use Rattle.lb_system.proofs.TopLemmas.{report_first, report_form, report_much, told_cause, told_complete, told_first, told_fits, told_form, told_long, told_memory, told_much, told_read, told_reason, told_replayed, told_steady, told_unreported, told_usage, written_cases, written_whole}
 
 -- there is a report
@@ -32,6 +33,7 @@ report_rightly alone words source sink e text status r written steady later sunk
       report = λ h. (text, r, written);
       complete = λ c known all calm. inr (written_whole sink e.fault text written calm);
       replayed = λ c known all calm. inr (inl (written_whole sink e.fault text written calm));
+      unasked = λ job asked none. inr (written_cases sink text HasReport tt tt e.fault written);
       line = written_cases sink text (WritesLine sink) tt tt e.fault written;
       nothing = written_cases sink text (λ o. IfSome o (λ f. ¬ (HasReport (Some f)) → ShowsNothing e f)) tt (λ none. absurd (none tt)) e.fault written;
       later = later;
@@ -58,6 +60,7 @@ refusal_rightly alone words source sink r e status reason found line log stays l
       report = λ h. absurd (told_unreported words source e.fault e.image t h);
       complete = λ c known all calm. inl (told_complete words source e.fault e.image c t known all);
       replayed = λ c known all calm. told_replayed words source e.fault e.image c t known all;
+      unasked = λ job asked none. told_unasked words source e.fault e.image job t asked none;
       line = line;
       nothing = subst (λ o. IfSome o (λ f. ¬ (HasReport (Some f)) → ShowsNothing e f)) (sym t.is)
           (λ none. record { image = told_fits words source t.f e.image t.reason; log = log });

@@ -1,6 +1,8 @@
 pub mod AskLemmas
 pub mod CallLemmas
 pub mod IsaLemmas
+pub mod LargeLemmas
+pub mod LargeRuns
 pub mod LineLemmas
 pub mod LogBounds
 pub mod MachineAnswers
@@ -12,3 +14,4 @@ pub mod SectionBounds
 pub mod SizeLemmas
 pub mod SourceLemmas
 pub mod TopLemmas
+pub mod UnaskedLemmas

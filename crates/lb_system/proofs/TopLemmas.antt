@@ -126,7 +126,7 @@ told_reason words source r told i h t =
     ]
 
 -- what is told, by cases on its reason
-told_cases : (words : List Text) (source : Port) (told : Option Fault) (i : Option Image) (P : Option Fault → Type 0)
+pub told_cases : (words : List Text) (source : Port) (told : Option Fault) (i : Option Image) (P : Option Fault → Type 0)
     → ((¬ (AreInForm words)) → P (Some fault.Usage))
     → (AskForInput words → ReadFails source → P (Some fault.Read))
     → (AskForInput words → ReadsMoreThan source.old source.new most_input → P (Some fault.TooLong))

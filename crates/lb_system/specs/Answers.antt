@@ -34,6 +34,7 @@ use Rattle.lb_system.specs.Request.{IsRequest}
 use Rattle.lb_system.specs.Report.{check_report, list_report}
 use Rattle.lb_system.specs.RunReport.{interp_report, isa_report}
 use Rattle.lb_system.specs.MachineReport.{IsMachineReport, IsLampReport, IsVerdict, verdict_text}
+use Rattle.lb_system.specs.LargeReport.{ShowsLarge}
 use Rattle.lb_system.specs.Faults.{fault_line}
 use Rattle.lb_system.specs.Views.{View, alone, with_image, shown_by}
 use Rattle.lb_system.specs.Questions.{Case, Question, OfProgram, SaysReplies, SaysEvents, SaysFrames, SaysLog, Tells, AllHold, IsCause, asks, is_image, reads}
@@ -128,6 +129,7 @@ ModeShows mode.Interp job input s = ShowsReplied (interp_report job) input s
 ModeShows mode.Isa job input s = ShowsReplied (λ p. isa_report job) input s
 ModeShows mode.Replay job input s = ShowsRun (IsReadLog input) job input s
 ModeShows mode.Judge job input s = ShowsVerdict input s
+ModeShows mode.Gen job input s = ShowsLarge job s
 ModeShows _ job input s = ⊥
 
 -- and each mode

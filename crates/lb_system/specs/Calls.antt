@@ -1,12 +1,13 @@
 -- What the top call owes to its caller, whoever fires the machine's kinds.
-use Rattle.std.specs.Prelude.{◌≡◌, ◌≢◌, ◌≤◌, ◌⊎◌, Bool, List, None, Some, IfSome}
+use Rattle.std.specs.Prelude.{◌≡◌, ◌≢◌, ◌≤◌, ◌⊎◌, Bool, List, None, Some, IfSome, false}
 use Rattle.lb_ports.specs.Bytes.{ReadsUpTo, ReadsMoreThan}
 use Rattle.lb_syntax.specs.Names.{Text}
+use Rattle.lb_words.specs.declared.job.Job.{Job}
 use Rattle.lb_system.specs.declared.fault.Fault.TheVariants as fault
 use Rattle.lb_system.specs.declared.top.Ended.{Ended}
-use Rattle.lb_system.specs.Request.{AreInForm}
+use Rattle.lb_system.specs.Request.{AreInForm, IsRequest}
 use Rattle.lb_system.specs.Faults.{status_of}
-use Rattle.lb_system.specs.Questions.{Case, Question, Legal, AllHold, IsFirstNo, asks, but_legal}
+use Rattle.lb_system.specs.Questions.{Case, Question, Legal, AllHold, IsFirstNo, asks, but_legal, reads}
 use Rattle.lb_system.specs.Answers.{Port, Failed, HasCause, HasReport, IsKnownCase, IsOfInput, IsReported, IsTooMuch, ReadFails, ShowsForm, ShowsNothing, TellsOf, UnlessMemory, WritesLine, most_input}
 
 -- a call with these words, this source and this sink ended rightly; one worker alone fires the kinds of
@@ -37,6 +38,9 @@ pub record EndsRightly (alone : Bool) (words : List Text) (source sink : Port) (
       → ¬ (Failed sink) → UnlessMemory e.fault (e.fault ≡ None)
   pub replayed : (c : Case) → IsKnownCase words source e.image c → AllHold c (but_legal (asks c))
       → ¬ (Failed sink) → UnlessMemory e.fault ((e.fault ≡ None) ⊎ TellsOf c Legal e.fault)
+  -- a job without an input ends with a report, or for want of memory
+  pub unasked : (job : Job) → IsRequest words job → reads job ≡ false
+      → UnlessMemory e.fault (HasReport e.fault)
   -- what comes in its place
   pub line : WritesLine sink e.fault
   pub nothing : IfSome e.fault (λ f. ¬ (HasReport (Some f)) → ShowsNothing e f)

@@ -3,9 +3,11 @@ pub mod Views
 pub mod Report
 pub mod RunReport
 pub mod MachineReport
+pub mod LargeReport
 pub mod Faults
 pub mod Questions
 pub mod Answers
 pub mod Calls
 pub mod InternalAnswers
+pub mod InternalLarge
 pub mod Headline

@@ -87,7 +87,7 @@ mode_questions mode.Run input = framed
 mode_questions mode.Lamp input = Sections 1 ∷ InForm Frames 0 ∷ []
 mode_questions mode.Replay input = logged
 mode_questions mode.Judge input = Sections 1 ∷ InForm Events 0 ∷ []
-mode_questions _ input = []
+mode_questions mode.Gen input = []
 
 abbrev pub questions : Job → Text → List Question
 questions job input = mode_questions job.mode input

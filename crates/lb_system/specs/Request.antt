@@ -6,11 +6,11 @@ use Rattle.lb_words.specs.declared.job.Mode.{Mode}
 use Rattle.lb_words.specs.declared.job.Mode.TheVariants as mode
 use Rattle.lb_words.specs.Words.{Asks}
 
--- the modes that there are so far
+-- the modes
 abbrev pub modes : List Mode
 modes =
     mode.Check ∷ mode.Print ∷ mode.Compile ∷ mode.List ∷ mode.Interp ∷ mode.Isa ∷ mode.Run
-    ∷ mode.Lamp ∷ mode.Replay ∷ mode.Judge ∷ []
+    ∷ mode.Lamp ∷ mode.Replay ∷ mode.Judge ∷ mode.Gen ∷ []
 
 -- the words, the program's name first, ask for this job
 abbrev pub IsRequest : List Text → Job → Type 0

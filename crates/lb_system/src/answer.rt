@@ -9,6 +9,7 @@ ghost use Rattle.lb_system.specs.InternalAnswers.{IsAnswer, IsInRange, IsRefusal
 use crate::compiled::{compile_mode, interp_mode, isa_mode};
 use crate::crew::Crew;
 use crate::fault::Fault;
+use crate::large::gen_mode;
 use crate::machines::{lamp_mode, replay_mode, run_mode};
 use crate::modes::{check_mode, judge_mode, list_mode, print_mode};
 use crate::shown::Shown;
@@ -70,6 +71,6 @@ pub fn answer_to<F: Fn(Global, Machine, u8, u32) -> Result<Machine, AllocError>>
         Mode::Lamp => lamp_mode(alloc, crew, job, input),
         Mode::Replay => replay_mode(alloc, job, input),
         Mode::Judge => judge_mode(alloc, job, input),
-        _ => unreachable!(),
+        Mode::Gen => gen_mode(alloc, job),
     }
 }

@@ -5,6 +5,7 @@ mod answer;
 mod compiled;
 mod crew;
 mod fault;
+mod large;
 mod line;
 mod machine_report;
 mod machines;

@@ -7,8 +7,8 @@ ghost use Rattle.lb_system.specs.InternalAnswers.{IsInRange};
 use lb_words::{Job, JobError, Mode, job_of};
 use std::alloc::Global;
 
-/// The modes that there are so far.
-const MODES: [Mode; 10] = [
+/// The modes.
+const MODES: [Mode; 11] = [
     Mode::Check,
     Mode::Print,
     Mode::Compile,
@@ -19,6 +19,7 @@ const MODES: [Mode; 10] = [
     Mode::Lamp,
     Mode::Replay,
     Mode::Judge,
+    Mode::Gen,
 ];
 
 /// What the words ask for, the program's name being the first of them.

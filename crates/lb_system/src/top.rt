@@ -1,5 +1,5 @@
 // The top call.
-ghost use Rattle.std.specs.Prelude.{◌≡◌, true, false, ◌≢◌, ◌≤◌, [], length, Some, IfOk, OnOk, IfErr, IsErrOf, map, string_bytes};
+ghost use Rattle.std.specs.Prelude.{◌≡◌, ◌≢◌, ◌≤◌, [], true, false, length, Some, IfOk, OnOk, IfErr, IsErrOf, map, string_bytes};
 ghost use Rattle.lb_ports.specs.Bytes.{ReadsUpTo, ReadsMoreThan};
 ghost use Rattle.lb_crew.specs.Crews.{CallsFinish, Finishes, MayCall};
 ghost use Rattle.lb_words.specs.declared.job.Job.{Job as Asked};
@@ -8,7 +8,7 @@ ghost use Rattle.lb_system.specs.Request.{IsRequest};
 ghost use Rattle.lb_system.specs.Faults.{fault_line, status_of};
 ghost use Rattle.lb_system.specs.Views.{shown_by};
 ghost use Rattle.lb_system.specs.Questions.{reads};
-ghost use Rattle.lb_system.specs.Answers.{HasReport, IsRead, IsReport, ReadFails, WritesLine, WritesReport, most_input, port};
+ghost use Rattle.lb_system.specs.Answers.{AskForInput, HasReport, IsRead, IsReport, ReadFails, WritesLine, WritesReport, most_input, port};
 ghost use Rattle.lb_system.specs.Calls.{EndsRightly};
 ghost use Rattle.lb_system.specs.Headline.{RunsItsImage, RunsItsMachine, RunsMachine, RunsTheLamp};
 ghost use Rattle.lb_system.specs.InternalAnswers.{IsReason, IsTold};
@@ -58,7 +58,7 @@ pub fn plain<I: Source, O: Sink>(
     ensures rightly { EndsRightly true (map string_bytes words.now)
         (port I.left I.faults input.old input.new)
         (port O.held O.faults output.old output.new) result }
-    ensures unread { result.fault ≡ Some Fault.Usage → input.new ≡ input.old }
+    ensures unread { ¬ (AskForInput (map string_bytes words.now)) → input.new ≡ input.old }
     ensures isa { (job : Asked) → IsRequest (map string_bytes words.now) job
         → job.mode ≡ mode.Isa → HasReport result.fault
         → RunsItsImage job (port I.left I.faults input.old input.new)
@@ -97,7 +97,7 @@ pub fn bulb<R: Threads + Wait + Sync, I: Source, O: Sink, G: Gate + Sync>(
     ensures rightly { EndsRightly false (map string_bytes words.now)
         (port I.left I.faults input.old input.new)
         (port O.held O.faults output.old output.new) result }
-    ensures unread { result.fault ≡ Some Fault.Usage → input.new ≡ input.old }
+    ensures unread { ¬ (AskForInput (map string_bytes words.now)) → input.new ≡ input.old }
     ensures isa { (job : Asked) → IsRequest (map string_bytes words.now) job
         → job.mode ≡ mode.Isa → HasReport result.fault
         → RunsItsImage job (port I.left I.faults input.old input.new)
@@ -135,7 +135,7 @@ fn call<F: Fn(Global, Machine, u8, u32) -> Result<Machine, AllocError>, I: Sourc
     ensures rightly { EndsRightly crew.now.alone (map string_bytes words.now)
         (port I.left I.faults input.old input.new)
         (port O.held O.faults output.old output.new) result }
-    ensures unread { result.fault ≡ Some Fault.Usage → input.new ≡ input.old }
+    ensures unread { ¬ (AskForInput (map string_bytes words.now)) → input.new ≡ input.old }
     ensures isa { (job : Asked) → IsRequest (map string_bytes words.now) job
         → job.mode ≡ mode.Isa → HasReport result.fault
         → RunsItsImage job (port I.left I.faults input.old input.new)
@@ -250,7 +250,7 @@ fn prepare<F: Fn(Global, Machine, u8, u32) -> Result<Machine, AllocError>, I: So
         (port I.left I.faults input.old input.new)) }
     ensures reason { IfErr result (λ r. IsReason (map string_bytes words.now)
         (port I.left I.faults input.old input.new) r.fault r.image) }
-    ensures unread { IfErr result (λ r. r.fault ≡ Fault.Usage → input.new ≡ input.old) }
+    ensures unread { ¬ (AskForInput (map string_bytes words.now)) → input.new ≡ input.old }
     ensures steady { OnOk result (I.faults input.new ≡ I.faults input.old) }
     ensures stays { IfErr result (λ r. r.fault ≢ Fault.Read
         → I.faults input.new ≡ I.faults input.old) }
@@ -274,6 +274,8 @@ fn prepare<F: Fn(Global, Machine, u8, u32) -> Result<Machine, AllocError>, I: So
 fn input_of<I: Source>(alloc: Global, job: &Job, input: &mut I) -> Result<Vec<u8>, ReadAllFault>
     ensures read { IfOk result (λ bytes. IsRead (reads job.now)
         (port I.left I.faults input.old input.new) bytes.items) }
+    ensures unread { reads job.now ≡ false → input.new ≡ input.old }
+    ensures asked { IfErr result (λ f. reads job.now ≡ true) }
     ensures within { IfOk result (λ bytes. length bytes.items ≤ most_input) }
     ensures too_long { IsErrOf result ReadAllFault.TooLong
         → ReadsMoreThan (I.left input.old) (I.left input.new) most_input }

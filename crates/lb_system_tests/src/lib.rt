@@ -13,6 +13,8 @@ mod compared;
 #[cfg(test)]
 mod lamp;
 #[cfg(test)]
+mod large;
+#[cfg(test)]
 mod lists;
 #[cfg(test)]
 mod machines;

@@ -1,12 +1,11 @@
 use Rattle.std.proofs.Common.{map, sym, subst}
 use Rattle.std.specs.Prelude.{string_bytes}
-use Rattle.lb_system.specs.declared.fault.Fault.TheVariants as fault
 use Rattle.lb_system.specs.Views.{shown_by}
 use Rattle.lb_system.specs.Answers.{IsReport, port}
 use Rattle.lb_system.proofs.CallLemmas.{refusal_rightly, report_rightly}
 use Rattle.lb_system.proofs.Headlines.{report_runs_lamp, report_runs_machine}
 use Rattle.lb_system.proofs.IsaLemmas.{report_runs_image}
-use Rattle.lb_system.proofs.TopLemmas.{told_found, told_reason, told_unreported}
+use Rattle.lb_system.proofs.TopLemmas.{told_reason, told_unreported}
 use Rattle.lb_system.proofs.top.call.Goals as goal
 
 -- ---- there is a report
@@ -58,10 +57,6 @@ returns-in-Err-clause-rightly g c =
     let sink = port g.O.Sink.held g.O.Sink.faults c.args.output.now c.refuse.new.output in
     refusal_rightly c.args.crew.now.alone words source sink c.in-Err.refused c.refuse.result c.refuse.ensures.status c.in-Err.ensures.reason c.refuse.ensures.told c.refuse.ensures.line
     c.refuse.ensures.log c.in-Err.ensures.stays c.prepare.ensures.source c.refuse.ensures.sink
-
-pub returns-in-Err-clause-unread : goal.returns-in-Err-clause-unread
-returns-in-Err-clause-unread g c = λ e.
-    c.in-Err.ensures.unread (told_found c.in-Err.refused c.refuse.result.fault c.refuse.result.image fault.Usage c.refuse.ensures.told e (λ no. cc))
 
 pub returns-in-Err-clause-isa : goal.returns-in-Err-clause-isa
 returns-in-Err-clause-isa g c = λ job asked is h.

@@ -1,11 +1,11 @@
 use Rattle.std.proofs.Common.{rules, ◌≤◌, length, refl, map, sym, subst}
 use Rattle.std.specs.Prelude.{string_bytes}
 use Rattle.std.proofs.lemmas.Result.{IfOk-weaker, IfErr-weaker}
-use Rattle.lb_system.specs.declared.fault.Fault.TheVariants as fault
-use Rattle.lb_system.specs.Questions.{questions, reads}
+use Rattle.lb_system.specs.Questions.{reads}
 use Rattle.lb_system.specs.Answers.{IsRead, most_input, port}
 use Rattle.lb_system.specs.InternalAnswers.{case_of}
-use Rattle.lb_system.proofs.TopLemmas.{refusal_fault, refusal_reason}
+use Rattle.lb_system.proofs.TopLemmas.{refusal_reason}
+use Rattle.lb_system.proofs.UnaskedLemmas.{reads_nothing}
 use Rattle.lb_system.proofs.top.prepare.Goals as goal
 
 pub returns-clause-made : goal.returns-clause-made
@@ -31,7 +31,7 @@ returns-clause-reason g c =
     c.answer_to.ensures.refused
 
 pub returns-clause-unread : goal.returns-clause-unread
-returns-clause-unread g c =
-    let job = c.in-Ok.job in
-    IfErr-weaker c.answer_to.result _ _
-    (λ r h e. absurd (refusal_fault (questions job c.deref.result.now) job c.deref.result.now r fault.Usage (λ o. o) (λ no. cc) h e)) c.answer_to.ensures.refused
+returns-clause-unread g c = λ none. c.input_of.ensures.unread (reads_nothing (map string_bytes c.args.words.now) c.in-Ok.job c.in-Ok.ensures.asked none)
+
+pub returns-in-Err-Read-clause-unread : goal.returns-in-Err-Read-clause-unread
+returns-in-Err-Read-clause-unread g c = λ none. c.in-Err-Read.ensures.unread (reads_nothing (map string_bytes c.args.words.now) c.in-Ok.job c.in-Ok.ensures.asked none)
