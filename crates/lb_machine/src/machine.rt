@@ -44,7 +44,7 @@ impl Model for Machine {
     ghost view = { λ m. content_of m.system m.entry m.max_events m.log.items };
 
     ghost invariant = { λ m.
-      IsKept m.system m.entry m.max_events m.log.items (vec_capacity m.log) };
+        IsKept m.system m.entry m.max_events m.log.items (vec_capacity m.log) };
 }
 
 /// What a machine is made of.
