@@ -2,6 +2,10 @@
 #![tactic(auto)]
 
 #[cfg(test)]
+mod alike;
+#[cfg(test)]
+mod calls;
+#[cfg(test)]
 mod causes;
 #[cfg(test)]
 mod jobs;

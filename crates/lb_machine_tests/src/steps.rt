@@ -1,4 +1,8 @@
 // Steps that are written as letters, and what is told of a machine.
+use crate::calls::{
+    arrived, attempt, attempt_at, count, done, fetch_pc, halted, is_enabled, lamp, retired,
+    trace_of,
+};
 use lb_machine::{Machine, NotFired};
 use lb_rv::Cause;
 use lb_trace::{Kind, append_trace};
@@ -36,17 +40,17 @@ fn kind_of(letter: u8) -> Option<Kind> {
 
 // Fires a kind that is enabled.
 fn fire(rt: &impl Abort, machine: &mut Machine, kind: Kind) {
-    let place = machine.log().len() as u64;
-    assert!(rt; machine.enabled(kind), "{kind:?} at {place}");
-    assert_eq!(rt; machine.fire((place % 8) as u8, kind), Ok(place));
+    let place = count(machine) as u64;
+    assert!(rt; is_enabled(machine, kind), "{kind:?} at {place}");
+    assert_eq!(rt; attempt_at(machine, place, kind), Ok(place));
 }
 
 // Fires a kind that isn't.
 fn refuse(rt: &impl Abort, machine: &mut Machine, kind: Kind) {
-    let count = machine.log().len();
-    assert!(rt; !machine.enabled(kind), "{kind:?} at {count}");
-    assert_eq!(rt; machine.fire(0, kind), Err(NotFired::GuardFalse));
-    assert_eq!(rt; machine.log().len(), count);
+    let entries = count(machine);
+    assert!(rt; !is_enabled(machine, kind), "{kind:?} at {entries}");
+    assert_eq!(rt; attempt(machine, kind), Err(NotFired::GuardFalse));
+    assert_eq!(rt; count(machine), entries);
 }
 
 // Fires the kinds of one instruction.
@@ -54,10 +58,10 @@ fn instruction(rt: &impl Abort, machine: &mut Machine) {
     fire(rt, machine, Kind::Fetch);
     fire(rt, machine, Kind::Decode);
     fire(rt, machine, Kind::Execute);
-    if machine.enabled(Kind::Mmio) {
+    if is_enabled(machine, Kind::Mmio) {
         fire(rt, machine, Kind::Mmio);
     }
-    if machine.enabled(Kind::Ram) {
+    if is_enabled(machine, Kind::Ram) {
         fire(rt, machine, Kind::Ram);
     }
     fire(rt, machine, Kind::Writeback);
@@ -84,32 +88,30 @@ pub fn fire_all(rt: &impl Abort, machine: &mut Machine, letters: &str) {
 
 /// What is told of a machine: how far its core is, why it is halted, its frames, its lamp and its accesses.
 pub fn tell(alloc: Global, machine: &Machine) -> Result<Vec<u8>, AllocError> {
-    let core = machine.core();
-    let board = machine.board();
     let counts = format!(in alloc;
         "entries {} done {} retired {} fetch {} arrived {} lamp {}\n",
-        machine.log().len(),
-        core.done(),
-        core.retired(),
-        core.fetch_pc(),
-        board.arrived(),
-        board.lamp()
+        count(machine),
+        done(machine),
+        retired(machine),
+        fetch_pc(machine),
+        arrived(machine),
+        lamp(machine)
     )?;
     let mut told = Vec::from_slice(alloc, counts.as_bytes())?;
-    if let Some(cause) = core.halted() {
+    if let Some(cause) = halted(machine) {
         let text = format!(in alloc; "halted {cause:?}\n")?;
         told.extend_from_slice(text.as_bytes())?;
     }
-    append_trace(&mut told, machine.trace())?;
+    append_trace(&mut told, trace_of(machine))?;
     Ok(told)
 }
 
 /// Asserts that a halted machine fires nothing, and doesn't change.
 pub fn expect_halted(rt: &impl Abort, machine: &mut Machine, cause: Cause) {
-    let count = machine.log().len();
+    let entries = count(machine);
     for kind in KINDS {
-        assert!(rt; !machine.enabled(kind));
-        assert_eq!(rt; machine.fire(7, kind), Err(NotFired::Halted { cause }));
+        assert!(rt; !is_enabled(machine, kind));
+        assert_eq!(rt; attempt(machine, kind), Err(NotFired::Halted { cause }));
     }
-    assert_eq!(rt; machine.log().len(), count);
+    assert_eq!(rt; count(machine), entries);
 }

@@ -1,18 +1,29 @@
 // Firing, refusing, copying and replaying.
+use crate::alike::{is_copied, is_of_job, makes, replays_at_each_length};
+use crate::calls::{
+    arrived, attempt, count, done, frame_count, halted, lamp, log_of, most, replay_one,
+    replay_three, retired, trace_of,
+};
 use crate::causes::halting;
-use crate::jobs::{Job, boot, replayed};
+use crate::jobs::{Job, boot};
 use crate::lines::{ACCESSES, FRAMES, STEPS, WORDS};
-use crate::steps::{expect_halted, fire_all, tell};
+use crate::steps::{expect_halted, fire_all};
 use crate::stop::Stop;
-use crate::turns::{Pair, open_pair};
-use lb_machine::{NotFired, Parts};
-use lb_trace::{Entry, Kind, print_trace};
+use crate::turns::{Pair, open_pair, try_fire};
+use lb_machine::NotFired;
+use lb_trace::{Entry, Kind};
 use lb_turn::{CloseFault, TurnFault};
 use std::test::Fail;
 
 /// `jal x0, 0`.
 const LOOP: Job = Job {
     words: "0000006f",
+    frames: "",
+};
+
+/// `addi x0, x0, 0`.
+const OTHER: Job = Job {
+    words: "00000013",
     frames: "",
 };
 
@@ -30,49 +41,46 @@ const fn entry(kind: Kind) -> Entry {
 #[test]
 fn replays_a_log_up_to_what_cannot_be_fired(rt: HostRuntime) -> Result<(), Fail> {
     let alloc = rt.alloc();
+    let machine = replay_three(alloc, LOOP, Kind::Fetch, Kind::Boot, Kind::Decode)?;
     let log = [entry(Kind::Fetch), entry(Kind::Boot), entry(Kind::Decode)];
-    let machine = replayed(alloc, LOOP, &log)?;
-    assert_eq!(rt; machine.log(), log.as_slice());
-    assert_eq!(rt; machine.max_events(), 3);
-    assert_eq!(rt; machine.trace().len(), 0);
-    assert_eq!(rt; machine.core().done(), 0);
-    assert_eq!(rt; machine.core().retired(), 0);
-    assert_eq!(rt; machine.core().halted(), None);
-    assert_eq!(rt; machine.board().arrived(), 0);
-    assert!(rt; !machine.board().lamp());
-    let early = [entry(Kind::Decode)];
-    assert!(rt; matches!(replayed(alloc, LOOP, &early), Err(Stop::BadEvent(0))));
-    let three = [entry(Kind::Fetch), entry(Kind::Fetch), entry(Kind::Fetch)];
-    assert!(rt; matches!(replayed(alloc, LOOP, &three), Err(Stop::BadEvent(2))));
-    let arrival = [entry(Kind::Arrive)];
-    assert!(rt; matches!(replayed(alloc, LOOP, &arrival), Err(Stop::BadEvent(0))));
-    let shift = [entry(Kind::Shift)];
-    assert!(rt; matches!(replayed(alloc, LOOP, &shift), Err(Stop::BadEvent(0))));
+    assert_eq!(rt; log_of(&machine), log.as_slice());
+    assert_eq!(rt; most(&machine), 3);
+    assert_eq!(rt; trace_of(&machine).len(), 0);
+    assert_eq!(rt; done(&machine), 0);
+    assert_eq!(rt; retired(&machine), 0);
+    assert_eq!(rt; halted(&machine), None);
+    assert_eq!(rt; arrived(&machine), 0);
+    assert!(rt; !lamp(&machine));
+    for kind in [Kind::Decode, Kind::Arrive, Kind::Shift] {
+        assert!(rt; matches!(replay_one(alloc, LOOP, kind), Err(Stop::BadEvent(0))));
+    }
+    let three = replay_three(alloc, LOOP, Kind::Fetch, Kind::Fetch, Kind::Fetch);
+    assert!(rt; matches!(three, Err(Stop::BadEvent(2))));
     Ok(())
 }
 
 #[test]
-fn refuses_when_full_and_by_its_guard(rt: HostRuntime) -> Result<(), Fail> {
+fn refuses_when_full(rt: HostRuntime) -> Result<(), Fail> {
     let alloc = rt.alloc();
     let mut machine = boot(alloc, LOOP, 1)?;
-    assert_eq!(rt; machine.fire(0, Kind::Fetch), Ok(0));
-    assert_eq!(rt; machine.fire(0, Kind::Boot), Err(NotFired::Full));
-    assert_eq!(rt; machine.fire(0, Kind::Mmio), Err(NotFired::Full));
-    assert_eq!(rt; machine.log(), [entry(Kind::Fetch)].as_slice());
-    assert_eq!(rt; machine.trace().len(), 0);
-    let copy = machine.copy(alloc)?;
-    assert_eq!(rt; copy.log(), machine.log());
-    assert!(rt; copy.same_job(&machine));
-    let two = boot(alloc, LOOP, 2)?;
-    assert!(rt; !copy.same_job(&two));
-    let other = Job {
-        words: "00000013",
-        frames: "",
-    };
-    let other = boot(alloc, other, 1)?;
-    assert!(rt; !copy.same_job(&other));
-    let mut nine = boot(alloc, LOOP, 9)?;
-    assert_eq!(rt; nine.fire(0, Kind::Mmio), Err(NotFired::GuardFalse));
+    assert_eq!(rt; attempt(&mut machine, Kind::Fetch), Ok(0));
+    assert_eq!(rt; attempt(&mut machine, Kind::Boot), Err(NotFired::Full));
+    assert_eq!(rt; attempt(&mut machine, Kind::Mmio), Err(NotFired::Full));
+    assert_eq!(rt; log_of(&machine), [entry(Kind::Fetch)].as_slice());
+    assert_eq!(rt; trace_of(&machine).len(), 0);
+    assert!(rt; is_copied(alloc, &machine)?);
+    assert!(rt; !is_of_job(alloc, &machine, LOOP, 2)?);
+    assert!(rt; !is_of_job(alloc, &machine, OTHER, 1)?);
+    Ok(())
+}
+
+#[test]
+fn refuses_by_its_guard(rt: HostRuntime) -> Result<(), Fail> {
+    let mut machine = boot(rt.alloc(), LOOP, 9)?;
+    assert_eq!(rt;
+        attempt(&mut machine, Kind::Mmio),
+        Err(NotFired::GuardFalse)
+    );
     Ok(())
 }
 
@@ -81,29 +89,12 @@ fn frames_arrive_while_nobody_listens(rt: HostRuntime) -> Result<(), Fail> {
     let alloc = rt.alloc();
     let mut whole = boot(alloc, DEAF, 1000)?;
     fire_all(&rt, &mut whole, STEPS);
-    let told = print_trace(alloc, whole.trace())?;
-    assert_eq!(rt; told.as_slice(), ACCESSES.as_bytes());
-    assert_eq!(rt; whole.core().done(), 45);
-    assert_eq!(rt; whole.board().arrived(), 2);
-    assert_eq!(rt; whole.frames().len(), 2);
-    let mut part = boot(alloc, DEAF, 1000)?;
-    for entry in whole.log() {
-        let again = replayed(alloc, DEAF, part.log())?;
-        assert_eq!(rt; tell(alloc, &again)?, tell(alloc, &part)?);
-        assert!(rt; part.fire(entry.worker, entry.kind).is_ok());
-    }
-    let copy = part.copy(alloc)?;
-    assert!(rt; copy.same_job(&whole));
-    assert_eq!(rt; tell(alloc, &copy)?, tell(alloc, &whole)?);
-    let Parts {
-        log,
-        trace,
-        core,
-        ..
-    } = copy.into_parts();
-    assert_eq!(rt; log.as_slice(), whole.log());
-    assert_eq!(rt; trace.as_slice(), whole.trace());
-    assert_eq!(rt; core.done(), whole.core().done());
+    assert!(rt; makes(alloc, &whole, ACCESSES)?);
+    assert_eq!(rt; done(&whole), 45);
+    assert_eq!(rt; arrived(&whole), 2);
+    assert_eq!(rt; frame_count(&whole), 2);
+    assert!(rt; replays_at_each_length(alloc, DEAF, &whole)?);
+    assert!(rt; is_copied(alloc, &whole)?);
     Ok(())
 }
 
@@ -114,7 +105,7 @@ fn halts_by_each_cause(rt: HostRuntime) -> Result<(), Fail> {
         let halting = halting(n);
         let mut machine = boot(alloc, halting.job, halting.entries)?;
         fire_all(&rt, &mut machine, halting.letters);
-        assert_eq!(rt; machine.log().len(), halting.entries as usize);
+        assert_eq!(rt; count(&machine), halting.entries as usize);
         expect_halted(&rt, &mut machine, halting.cause);
     }
     Ok(())
@@ -128,11 +119,11 @@ fn two_seats_fire_one_machine(rt: HostRuntime) -> Result<(), Fail> {
         mut first,
         mut second,
     } = open_pair(alloc, boot(alloc, LOOP, 9)?)?;
-    assert!(rt; matches!(turn.try_fire(&mut first, Kind::Fetch), Ok(0)));
-    assert!(rt; matches!(turn.try_fire(&mut second, Kind::Boot), Ok(1)));
+    assert!(rt; matches!(try_fire(&turn, &mut first, Kind::Fetch), Ok(0)));
+    assert!(rt; matches!(try_fire(&turn, &mut second, Kind::Boot), Ok(1)));
     assert!(rt;
         matches!(
-            turn.try_fire(&mut first, Kind::Mmio),
+            try_fire(&turn, &mut first, Kind::Mmio),
             Err(TurnFault::NotFired {
                 seen: 2,
                 why: NotFired::GuardFalse
@@ -160,6 +151,6 @@ fn two_seats_fire_one_machine(rt: HostRuntime) -> Result<(), Fail> {
         worker: 1,
         kind: Kind::Boot,
     };
-    assert_eq!(rt; machine.log(), [entry(Kind::Fetch), second].as_slice());
+    assert_eq!(rt; log_of(&machine), [entry(Kind::Fetch), second].as_slice());
     Ok(())
 }

@@ -2,8 +2,9 @@
 ghost use Rattle.std.specs.Prelude.{IfOk};
 ghost use Rattle.lb_turn.specs.Seats.{IsOf};
 
-use lb_machine::Machine;
-use lb_turn::{Seat, Turn};
+use lb_machine::{Machine, NotFired};
+use lb_trace::Kind;
+use lb_turn::{Seat, Turn, TurnFault};
 use std::alloc::{AllocError, Global};
 
 /// A turn over a machine, and its two seats.
@@ -25,4 +26,16 @@ pub fn open_pair(alloc: Global, machine: Machine) -> Result<Pair, AllocError>
         first,
         second,
     })
+}
+
+/// Tries to fire a kind at a seat of the turn. All that its clause says is that the seat stays one.
+pub fn try_fire(
+    turn: &Turn<Machine>,
+    seat: &mut Seat<Machine>,
+    kind: Kind,
+) -> Result<u64, TurnFault<NotFired>>
+    requires { IsOf turn.now seat.old }
+    ensures { IsOf turn.now seat.new }
+{
+    turn.try_fire(seat, kind)
 }
