@@ -23,7 +23,7 @@ halted_is_no_none : (s : MachineState) (cause : Cause) → s.core.halted ≡ Som
 halted_is_no_none s cause h none = cc (h, none)
 
 -- a kind that may be fired: the core isn't halted
-enabled_goes : (s : MachineState) (kind : Kind) → is_enabled by_bytes s kind ≡ true → is_none s.core.halted ≡ true
+pub enabled_goes : (s : MachineState) (kind : Kind) → is_enabled by_bytes s kind ≡ true → is_none s.core.halted ≡ true
 enabled_goes s Fetch on = (and_parts (is_none s.core.halted) (guard s.core Fetch) on).0
 enabled_goes s Decode on = (and_parts (is_none s.core.halted) (guard s.core Decode) on).0
 enabled_goes s Execute on = (and_parts (is_none s.core.halted) (guard s.core Execute) on).0
