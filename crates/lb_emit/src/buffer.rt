@@ -27,6 +27,7 @@ impl CodeBuffer {
     ghost use Rattle.lb_syntax.specs.declared.limits.TheConstants.{MOST_WORDS};
     ghost use Rattle.lb_flat.specs.Needs.{operation_words};
     ghost use Rattle.lb_flat.specs.declared.registers.TheConstants.{MOST_SAVED};
+    ghost use Rattle.lb_emit_laws.specs.Code.{over_code, over_words};
     ghost use Rattle.lb_emit_laws.specs.Instructions.{address_code, copy_code, down_code, get_code, jump, literal_code, literal_words, loads_code, lower_part, op_code, put_code, reach_words, saves_code, skip_unless_zero, up_code, upper_part, immediate};
     ghost use Rattle.lb_rv.specs.declared.instr.Instr.TheVariants as instr;
 
@@ -280,6 +281,19 @@ impl CodeBuffer {
             rd,
             imm: (4 * to).wrapping_sub(4 * from).cast_signed(),
         })
+    }
+
+    /// A jump over so many instructions, or nothing where there are none.
+    pub fn jump_over(&mut self, words: u32) -> Result<(), AllocError>
+        requires { length self.old + over_words words + words ≤ MOST_WORDS }
+        ensures code { OnOk result (self.new ≡ self.old ++ over_code (length self.old) words) }
+        ensures long { OnOk result (length self.new ≡ length self.old + over_words words) }
+    {
+        if words == 0 {
+            return Ok(());
+        }
+        let behind = self.place() + 1 + words;
+        self.jump_to(ZERO, behind)
     }
 
     /// Over the next instruction, where the register isn't 0.

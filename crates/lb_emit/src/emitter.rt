@@ -1,10 +1,10 @@
 // The code of a function's commands.
 use crate::buffer::CodeBuffer;
 use crate::frame::Frame;
-use crate::instructions::{access, load, store};
-use crate::registers::{FIRST_PASSED, LINK, ZERO};
+use crate::instructions::{load, store, words_over};
+use crate::registers::{FIRST_PASSED, LINK, SECOND_PASSED, ZERO, value_register};
 use lb_flat::{Place, PlacedBlock, PlacedCmd, PlacedFunction};
-use lb_syntax::Action;
+use lb_syntax::{Action, Width};
 use std::alloc::AllocError;
 use std::marker::Model;
 
@@ -38,11 +38,12 @@ impl<'a> Model for Emitter<'a> {
 impl<'a> Emitter<'a> {
     ghost use Rattle.std.specs.Prelude.{◌≡◌, ◌<◌, ◌≤◌, ◌*◌, ◌+◌, ◌^◌, [], ◌∷◌, ◌++◌, length, drop, slice_index, OnOk};
     ghost use Rattle.lb_syntax.specs.declared.limits.TheConstants.{MOST_WORDS};
+    ghost use Rattle.lb_syntax.specs.declared.tree.Action.TheVariants.{Read, Write};
     ghost use Rattle.lb_flat.specs.Code.{Access, Branch, Call, Loop, Plain, Reserve, sites};
     ghost use Rattle.lb_flat.specs.declared.places.Place.TheVariants as place;
     ghost use Rattle.lb_flat.specs.Placed.{placed_block, placed_command, placed_routine};
     ghost use Rattle.lb_flat.specs.declared.registers.TheConstants.{MOST_SAVED};
-    ghost use Rattle.lb_emit_laws.specs.Code.{code_words, get_place, gets_code, place_words, places_words, plain_words, put_place, puts_code, routine_words};
+    ghost use Rattle.lb_emit_laws.specs.Code.{access_code, code_words, fetch_code, fetch_words, get_place, gets_code, keep_code, over_words, place_words, places_words, plain_words, put_place, puts_code, routine_words};
     ghost use Rattle.lb_emit.specs.InternalEmit.{AreEntries, CallsFunctions, CanPass, HasNumberedSlots, HaveSlots, IsFunctionPart, IsSimple, NamesSlots, with_command, with_function};
     ghost use Rattle.lb_emit.specs.InternalFrame.{frame_in};
 
@@ -155,7 +156,8 @@ impl<'a> Emitter<'a> {
         }
     }
 
-    // One block or the other: a condition that isn't 0 goes over the jump to the second.
+    // One block or the other: a condition that isn't 0 goes over the jump to the second. A second block
+    // without code needs no jump over it.
     #[cycle(add)]
     fn add_choice(
         &self,
@@ -168,7 +170,8 @@ impl<'a> Emitter<'a> {
         requires no_slots { NamesSlots self.now.frame.slots (placed_block no.now) }
         requires yes_functions { CallsFunctions (length self.now.entries) (placed_block yes.now) }
         requires no_functions { CallsFunctions (length self.now.entries) (placed_block no.now) }
-        requires room { length out.old.code + 3 + code_words self.now.frame (placed_block yes.now)
+        requires room { length out.old.code + 2 + code_words self.now.frame (placed_block yes.now)
+            + over_words (code_words self.now.frame (placed_block no.now))
             + code_words self.now.frame (placed_block no.now) ≤ MOST_WORDS }
         requires blocks { out.old.next_block + length (sites (placed_block yes.now))
             + length (sites (placed_block no.now)) ≤ length self.now.offsets }
@@ -176,17 +179,18 @@ impl<'a> Emitter<'a> {
             ≡ with_command self.now out.old.code out.old.next_block
             (Branch (place.Register condition) (placed_block yes.now) (placed_block no.now))) }
         ensures long { OnOk result (length out.new.code
-            ≡ length out.old.code + 3 + code_words self.now.frame (placed_block yes.now)
+            ≡ length out.old.code + 2 + code_words self.now.frame (placed_block yes.now)
+            + over_words (code_words self.now.frame (placed_block no.now))
             + code_words self.now.frame (placed_block no.now)) }
         ensures next { OnOk result (out.new.next_block ≡ out.old.next_block
             + length (sites (placed_block yes.now)) + length (sites (placed_block no.now))) }
     {
-        let second = out.code.place() + 2 + self.frame.words_of_block(yes) + 1;
-        let end = second + self.frame.words_of_block(no);
+        let words = self.frame.words_of_block(no);
+        let second = out.code.place() + 2 + self.frame.words_of_block(yes) + words_over(words);
         out.code.skip_unless_zero(condition)?;
         out.code.jump_to(ZERO, second)?;
         self.add_block(out, yes)?;
-        out.code.jump_to(ZERO, end)?;
+        out.code.jump_over(words)?;
         self.add_block(out, no)
     }
 
@@ -281,7 +285,7 @@ impl<'a> Emitter<'a> {
         self.put_places(code, targets)
     }
 
-    // An access of a device: the arguments, the access and the targets.
+    // An access of a device. With other arguments or targets than it has there is nothing to do.
     fn add_access(
         &self,
         code: &mut CodeBuffer,
@@ -297,9 +301,62 @@ impl<'a> Emitter<'a> {
             ≡ length code.old
             + plain_words self.now.frame (Access action) arguments.now targets.now) }
     {
-        self.get_places(code, arguments)?;
-        code.put(access(action))?;
-        self.put_places(code, targets)
+        match action {
+            Action::Read => match arguments {
+                [address] => match targets {
+                    [target] => self.add_read(code, *address, *target),
+                    _ => Ok(()),
+                },
+                _ => Ok(()),
+            },
+            Action::Write => match arguments {
+                [address, value] => match targets {
+                    [] => self.add_write(code, *address, *value),
+                    _ => Ok(()),
+                },
+                _ => Ok(()),
+            },
+        }
+    }
+
+    // A device is read: the address, the load and the target.
+    fn add_read(
+        &self,
+        code: &mut CodeBuffer,
+        address: Place,
+        target: Place,
+    ) -> Result<(), AllocError>
+        requires address { HaveSlots self.now.frame.slots (address ∷ []) }
+        requires target { HaveSlots self.now.frame.slots (target ∷ []) }
+        ensures code { OnOk result (code.new
+            ≡ code.old ++ access_code self.now.frame Read (address ∷ []) (target ∷ [])) }
+        ensures long { OnOk result (length code.new ≡ length code.old
+            + (fetch_words self.now.frame address + (1 + fetch_words self.now.frame target))) }
+    {
+        self.fetch(code, FIRST_PASSED, address)?;
+        let from = value_register(FIRST_PASSED, address);
+        code.put(load(Width::Four, value_register(FIRST_PASSED, target), from))?;
+        self.keep(code, target, FIRST_PASSED)
+    }
+
+    // A device is written: the address, the value and the store.
+    fn add_write(
+        &self,
+        code: &mut CodeBuffer,
+        address: Place,
+        value: Place,
+    ) -> Result<(), AllocError>
+        requires address { HaveSlots self.now.frame.slots (address ∷ []) }
+        requires value { HaveSlots self.now.frame.slots (value ∷ []) }
+        ensures code { OnOk result (code.new
+            ≡ code.old ++ access_code self.now.frame Write (address ∷ value ∷ []) []) }
+        ensures long { OnOk result (length code.new ≡ length code.old
+            + (fetch_words self.now.frame address + fetch_words self.now.frame value + 1)) }
+    {
+        self.fetch(code, FIRST_PASSED, address)?;
+        self.fetch(code, SECOND_PASSED, value)?;
+        let to = value_register(FIRST_PASSED, address);
+        code.put(store(Width::Four, to, value_register(SECOND_PASSED, value)))
     }
 
     // The code of any other command.
@@ -362,6 +419,32 @@ impl<'a> Emitter<'a> {
     {
         match place {
             Place::Register(register) => code.copy(register, rs),
+            Place::Slot(slot) => code.put_word(self.frame.offset_of(slot), rs),
+        }
+    }
+
+    // The value of a place comes to a register: to this one from a slot.
+    fn fetch(&self, code: &mut CodeBuffer, rd: u8, place: Place) -> Result<(), AllocError>
+        requires { HaveSlots self.now.frame.slots (place ∷ []) }
+        ensures code { OnOk result (code.new ≡ code.old ++ fetch_code self.now.frame rd place) }
+        ensures long { OnOk result (length code.new
+            ≡ length code.old + fetch_words self.now.frame place) }
+    {
+        match place {
+            Place::Register(_) => Ok(()),
+            Place::Slot(slot) => code.get_word(rd, self.frame.offset_of(slot)),
+        }
+    }
+
+    // And back to its place.
+    fn keep(&self, code: &mut CodeBuffer, place: Place, rs: u8) -> Result<(), AllocError>
+        requires { HaveSlots self.now.frame.slots (place ∷ []) }
+        ensures code { OnOk result (code.new ≡ code.old ++ keep_code self.now.frame place rs) }
+        ensures long { OnOk result (length code.new
+            ≡ length code.old + fetch_words self.now.frame place) }
+    {
+        match place {
+            Place::Register(_) => Ok(()),
             Place::Slot(slot) => code.put_word(self.frame.offset_of(slot), rs),
         }
     }

@@ -1,10 +1,10 @@
 // The frame of a function, and the instructions that its commands take.
 
-use crate::instructions::{words_of_literal, words_of_operation, words_of_reach};
+use crate::instructions::{words_of_literal, words_of_operation, words_of_reach, words_over};
 use crate::offsets::push_offsets;
 use crate::saved::saved_registers;
 use lb_flat::{Place, PlacedBlock, PlacedCmd, PlacedFunction};
-use lb_syntax::FrameLayout;
+use lb_syntax::{Action, FrameLayout};
 use sqlite_items::Items;
 use std::alloc::{AllocError, Global};
 
@@ -27,7 +27,7 @@ impl Frame {
     ghost use Rattle.lb_flat.specs.Needs.{frame_need};
     ghost use Rattle.std.specs.Prelude.{◌≡◌, ◌<◌, ◌≤◌, ◌*◌, ◌+◌, ◌^◌, [], ◌∷◌, length};
     ghost use Rattle.lb_flat.specs.Placed.{placed_block, placed_command, placed_routine};
-    ghost use Rattle.lb_emit_laws.specs.Code.{code_words, place_words, places_words, routine_words};
+    ghost use Rattle.lb_emit_laws.specs.Code.{access_words, code_words, fetch_words, place_words, places_words, routine_words};
     ghost use Rattle.lb_emit_laws.specs.Frames.{slot_offset};
     ghost use Rattle.lb_emit.specs.InternalEmit.{CanPass, HasNumberedSlots, HaveSlots, IsFunctionPart, NamesSlots};
     ghost use Rattle.lb_emit.specs.InternalFrame.{frame_in, framed_in, framed_of};
@@ -118,15 +118,16 @@ impl Frame {
                 targets,
                 arguments,
                 ..
-            } => self.words_of_passing(arguments.as_slice(), targets.as_slice()),
+            } => self.words_of_call(arguments.as_slice(), targets.as_slice()),
             PlacedCmd::Interact {
                 targets,
+                action,
                 arguments,
-                ..
-            } => self.words_of_passing(arguments.as_slice(), targets.as_slice()),
+            } => self.words_of_access(*action, arguments.as_slice(), targets.as_slice()),
             PlacedCmd::StackAlloc { body, .. } => 3 + self.words_of_block(body),
             PlacedCmd::If { yes, no, .. } => {
-                3 + self.words_of_block(yes) + self.words_of_block(no)
+                let second = self.words_of_block(no);
+                2 + self.words_of_block(yes) + words_over(second) + second
             }
             PlacedCmd::While { before, body, .. } => {
                 3 + self.words_of_block(before) + self.words_of_block(body)
@@ -134,8 +135,8 @@ impl Frame {
         }
     }
 
-    // The instructions of a call or an access.
-    fn words_of_passing(&self, arguments: &[Place], targets: &[Place]) -> u32
+    // The instructions of a call.
+    fn words_of_call(&self, arguments: &[Place], targets: &[Place]) -> u32
         requires arguments { CanPass self.now.slots arguments.now }
         requires targets { CanPass self.now.slots targets.now }
         requires numbered { HasNumberedSlots (frame_in self.now) }
@@ -143,6 +144,44 @@ impl Frame {
             + (1 + places_words (frame_in self.now) targets.now) }
     {
         self.words_of_places(arguments) + 1 + self.words_of_places(targets)
+    }
+
+    // The instructions of an access.
+    fn words_of_access(&self, action: Action, arguments: &[Place], targets: &[Place]) -> u32
+        requires arguments { CanPass self.now.slots arguments.now }
+        requires targets { CanPass self.now.slots targets.now }
+        requires numbered { HasNumberedSlots (frame_in self.now) }
+        ensures { result ≡ access_words (frame_in self.now) action arguments.now targets.now }
+    {
+        match action {
+            Action::Read => match arguments {
+                [address] => match targets {
+                    [target] => self.words_to_fetch(*address) + 1 + self.words_to_fetch(*target),
+                    _ => 0,
+                },
+                _ => 0,
+            },
+            Action::Write => match arguments {
+                [address, value] => match targets {
+                    [] => self.words_to_fetch(*address) + self.words_to_fetch(*value) + 1,
+                    _ => 0,
+                },
+                _ => 0,
+            },
+        }
+    }
+
+    // The instructions that bring the value of a place to a register, or back.
+    fn words_to_fetch(&self, place: Place) -> u32
+        requires slots { HaveSlots self.now.slots (place ∷ []) }
+        requires numbered { HasNumberedSlots (frame_in self.now) }
+        ensures words { result ≡ fetch_words (frame_in self.now) place }
+        ensures few { result ≤ 3 }
+    {
+        match place {
+            Place::Register(_) => 0,
+            Place::Slot(slot) => words_of_reach(self.offset_of(slot)),
+        }
     }
 
     /// The instructions of a function in this frame.

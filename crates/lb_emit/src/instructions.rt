@@ -1,12 +1,12 @@
 // Single instructions, and how many a small thing takes.
 ghost use Rattle.std.specs.Prelude.{◌≡◌, ◌≤◌};
 ghost use Rattle.lb_flat.specs.Needs.{operation_words};
-ghost use Rattle.lb_emit_laws.specs.Instructions.{access_instr, literal_words, load_instr, reach_words, store_instr};
+ghost use Rattle.lb_emit_laws.specs.Code.{over_words};
+ghost use Rattle.lb_emit_laws.specs.Instructions.{literal_words, load_instr, reach_words, store_instr};
 
 use crate::immediates::{is_reached, is_short, is_upper};
-use crate::registers::{FIRST_PASSED, SECOND_PASSED};
 use lb_rv::Instr;
-use lb_syntax::{Action, Op, Width};
+use lb_syntax::{Op, Width};
 
 /// The register `rd` becomes the bytes from the address in `rs1` on.
 pub fn load(width: Width, rd: u8, rs1: u8) -> Instr
@@ -30,25 +30,6 @@ pub fn store(width: Width, rs1: u8, rs2: u8) -> Instr
     }
 }
 
-/// An access of the device whose address is the first argument. A value that is read comes in its
-/// place, and one to be written is the second argument.
-pub fn access(action: Action) -> Instr
-    ensures { result ≡ access_instr action }
-{
-    match action {
-        Action::Read => Instr::Lw {
-            rd: FIRST_PASSED,
-            rs1: FIRST_PASSED,
-            imm: 0,
-        },
-        Action::Write => Instr::Sw {
-            rs1: FIRST_PASSED,
-            rs2: SECOND_PASSED,
-            imm: 0,
-        },
-    }
-}
-
 /// How many instructions make a register this word.
 pub fn words_of_literal(n: u32) -> u32
     ensures { result ≡ literal_words n }
@@ -62,6 +43,14 @@ pub fn words_of_reach(offset: u32) -> u32
     ensures few { result ≤ 3 }
 {
     if is_reached(offset) { 1 } else { 3 }
+}
+
+/// How many instructions go over so many.
+pub fn words_over(words: u32) -> u32
+    ensures words { result ≡ over_words words }
+    ensures few { result ≤ 1 }
+{
+    if words == 0 { 0 } else { 1 }
 }
 
 /// How many instructions an operation takes.

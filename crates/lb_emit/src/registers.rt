@@ -1,4 +1,8 @@
 // The registers that the code has for itself, by their numbers. Those of placed code are lb_flat's.
+ghost use Rattle.std.specs.Prelude.{◌≡◌};
+ghost use Rattle.lb_emit_laws.specs.Code as laws;
+
+use lb_flat::Place;
 
 /// The register that is 0.
 pub const ZERO: u8 = 0;
@@ -17,3 +21,13 @@ pub const FIRST_PASSED: u8 = 10;
 
 /// The second of them.
 pub const SECOND_PASSED: u8 = 11;
+
+/// The register that has the value of a place: its own, or this one where the place is a slot.
+pub fn value_register(spare: u8, place: Place) -> u8
+    ensures { result ≡ laws.value_register spare place }
+{
+    match place {
+        Place::Register(register) => register,
+        Place::Slot(_) => spare,
+    }
+}

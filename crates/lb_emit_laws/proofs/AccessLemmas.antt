@@ -1,7 +1,7 @@
 -- How many loads and stores the code has.
 use Rattle.std.proofs.Common.{◌≡◌, ℕ, ◌+◌, ◌≤◌, Bool, true, false, List, [], ◌∷◌, ◌++◌, drop, length, map, Some, refl, ap, arith}
 use Rattle.std.proofs.lemmas.List.Sums.{sum_by-cons}
-use Rattle.std.specs.Prelude.{sum}
+use Rattle.std.specs.Prelude.{◌==◌, sum}
 use Rattle.lb_syntax.specs.declared.tree.Op.{Op}
 use Rattle.lb_syntax.specs.declared.tree.Op.TheVariants.{Add, Sub, Mul, Mulhuu, Divu, Remu, And, Or, Xor, Sru, Slu, Srs, Lts, Ltu, Eq}
 use Rattle.lb_syntax.specs.declared.tree.Width.{Width}
@@ -18,9 +18,9 @@ use Rattle.lb_flat.specs.declared.places.Place.TheVariants.{Register, Slot}
 use Rattle.lb_flat.specs.Code.{Operation, Constant, Copy, Compute, Load, Store, Call, Access}
 use Rattle.lb_flat.specs.Code.{Code, Plain, Reserve, Branch, Loop, Nothing, Sequence, sites, Routine, Executable}
 use Rattle.lb_flat.specs.Needs.{placed_memory_words, routine_memory_words, placed_accesses_need}
-use Rattle.lb_emit_laws.specs.Instructions.{immediate, jump, skip_unless_zero, is_short, is_upper, literal_by, is_reached, get_by, put_by, down_by, down_code, up_by, up_code, address_code, saves_code, loads_code, op_code, load_instr, store_instr, access_instr}
+use Rattle.lb_emit_laws.specs.Instructions.{immediate, jump, skip_unless_zero, is_short, is_upper, literal_by, is_reached, get_by, put_by, down_by, down_code, up_by, up_code, address_code, saves_code, loads_code, op_code, load_instr, store_instr}
 use Rattle.lb_emit_laws.specs.Frames.{Frame, slot_offset, frame_of, offsets_of}
-use Rattle.lb_emit_laws.specs.Code.{places_words, get_place, put_place, gets_code, puts_code, plain_code, register_of, code_words, command_code, body_place, routine_code, routine_words, entry_of, boot_code, routines_code, program_code}
+use Rattle.lb_emit_laws.specs.Code.{places_words, get_place, put_place, gets_code, puts_code, value_register, fetch_code, keep_code, access_code, plain_code, register_of, over_by, over_code, over_words, code_words, command_code, body_place, routine_code, routine_words, entry_of, boot_code, routines_code, program_code}
 use Rattle.lb_emit_laws.specs.Correct.{memory_access, memory_accesses}
 use Rattle.lb_emit_laws.proofs.Places.{AreInRange}
 use Rattle.lb_emit_laws.proofs.SavedLemmas.{saved_few}
@@ -84,10 +84,6 @@ store_count One a b = refl
 store_count Two a b = refl
 store_count Four a b = refl
 
-access_count : (k : Action) → memory_access (Some (access_instr k)) ≡ 1
-access_count Read = refl
-access_count Write = refl
-
 saves_count : (j : ℕ) (rs : List ℕ) → count (saves_code j rs) ≡ length rs
 saves_count j [] = refl
 saves_count j (r ∷ rs) = let rest = saves_count (j + 1) rs in omega (arith, rest)
@@ -114,7 +110,33 @@ puts_count : (f : Frame) (qs : List Place) (i : ℕ) → count (puts_code f qs i
 puts_count f [] i = omega arith
 puts_count f (q ∷ qs) i = omega (arith, count_append (put_place f q i) (puts_code f qs (i + 1)), put_place_count f q i, puts_count f qs (i + 1))
 
+fetch_count : (f : Frame) (i : ℕ) (q : Place) → count (fetch_code f i q) ≤ 1
+fetch_count f i (Register r) = omega arith
+fetch_count f i (Slot k) = get_by_count (is_reached (slot_offset f k)) i (slot_offset f k)
+
+keep_count : (f : Frame) (q : Place) (i : ℕ) → count (keep_code f q i) ≤ 1
+keep_count f (Register r) i = omega arith
+keep_count f (Slot k) i = put_by_count (is_reached (slot_offset f k)) (slot_offset f k) i
+
+access_count : (f : Frame) (k : Action) (xs ys : List Place) → count (access_code f k xs ys) ≤ 1 + length xs + length ys
+access_count f Read (a ∷ []) (y ∷ []) =
+    let all = count_append (fetch_code f 10 a) (load_instr Four (value_register 10 y) (value_register 10 a) ∷ keep_code f y 10) in
+    omega (arith, all, fetch_count f 10 a, load_count Four (value_register 10 y) (value_register 10 a), keep_count f y 10)
+access_count f Write (a ∷ x ∷ []) [] =
+    let last : List Instr = store_instr Four (value_register 10 a) (value_register 11 x) ∷ [] in
+    let all = count_append (fetch_code f 10 a) (fetch_code f 11 x ++ last) in
+    let rest = count_append (fetch_code f 11 x) last in
+    omega (arith, all, rest, fetch_count f 10 a, fetch_count f 11 x, store_count Four (value_register 10 a) (value_register 11 x))
+access_count f k xs ys = omega arith
+
 -- ---- commands
+
+over_by_count : (none : Bool) (i n : ℕ) → count (over_by none i n) ≡ 0
+over_by_count true i n = refl
+over_by_count false i n = refl
+
+over_count : (i n : ℕ) → count (over_code i n) ≡ 0
+over_count i n = over_by_count (n == 0) i n
 
 module _ (f : Frame) (entry : ℕ → ℕ) where
   plain_count : (i : ℕ) (o : Operation) (xs ys : List Place) → count (plain_code f entry i o xs ys) ≤ placed_memory_words (Plain o xs ys)
@@ -127,8 +149,7 @@ module _ (f : Frame) (entry : ℕ → ℕ) where
   plain_count i (Store w) (Register a ∷ Register x ∷ []) [] = omega (arith, store_count w a x)
   plain_count i (Call g) xs ys =
       omega (arith, count_append (gets_code f 10 xs) (jump 1 (i + places_words f xs) (entry g) ∷ puts_code f ys 10), gets_count f 10 xs, puts_count f ys 10)
-  plain_count i (Access k) xs ys =
-      omega (arith, count_append (gets_code f 10 xs) (access_instr k ∷ puts_code f ys 10), gets_count f 10 xs, puts_count f ys 10, access_count k)
+  plain_count i (Access k) xs ys = omega (arith, access_count f k xs ys)
   plain_count i o xs ys = omega arith
 
   command_count : (os : List ℕ) (i : ℕ) (c : Code Place) → count (command_code f entry os i c) ≤ placed_memory_words c
@@ -136,12 +157,15 @@ module _ (f : Frame) (entry : ℕ → ℕ) where
   command_count [] i (Reserve n y b) = omega (arith, count_append (address_code (register_of y) 0) (command_code f entry [] (i + 3) b), command_count [] (i + 3) b)
   command_count (o ∷ os) i (Reserve n y b) = omega (arith, count_append (address_code (register_of y) o) (command_code f entry os (i + 3) b), command_count os (i + 3) b)
   command_count os i (Branch x b d) =
+      let j = i + 2 + code_words f b in
+      let wd = code_words f d in
       let first = command_code f entry os (i + 2) b in
-      let second = command_code f entry (drop (length (sites b)) os) (i + 2 + code_words f b + 1) d in
-      let all = count_append first (jump 0 (i + 2 + code_words f b) (i + 2 + code_words f b + 1 + code_words f d) ∷ second) in
+      let second = command_code f entry (drop (length (sites b)) os) (j + over_words wd) d in
+      let all = count_append first (over_code j wd ++ second) in
+      let behind = count_append (over_code j wd) second in
       let left = command_count os (i + 2) b in
-      let right = command_count (drop (length (sites b)) os) (i + 2 + code_words f b + 1) d in
-      omega (arith, all, left, right)
+      let right = command_count (drop (length (sites b)) os) (j + over_words wd) d in
+      omega (arith, all, behind, over_count j wd, left, right)
   command_count os i (Loop b x d) =
       let j = i + code_words f b in
       let head = command_code f entry os i b in

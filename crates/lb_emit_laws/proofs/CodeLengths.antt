@@ -1,16 +1,20 @@
 -- How many instructions the code has.
-use Rattle.std.proofs.Common.{◌≡◌, ℕ, ◌+◌, Bool, true, false, List, [], ◌∷◌, ◌++◌, drop, length, refl, ◌∙◌, arith, length-append}
+use Rattle.std.proofs.Common.{◌≡◌, ℕ, ◌+◌, ◌≤◌, Bool, true, false, List, [], ◌∷◌, ◌++◌, drop, length, refl, ◌∙◌, arith, length-append}
+use Rattle.std.specs.Prelude.{◌==◌}
 use Rattle.lb_syntax.specs.declared.tree.Op.{Op}
 use Rattle.lb_syntax.specs.declared.tree.Op.TheVariants.{Add, Sub, Mul, Mulhuu, Divu, Remu, And, Or, Xor, Sru, Slu, Srs, Lts, Ltu, Eq}
+use Rattle.lb_syntax.specs.declared.tree.Action.{Action}
+use Rattle.lb_syntax.specs.declared.tree.Action.TheVariants.{Read, Write}
+use Rattle.lb_syntax.specs.declared.tree.Width.TheVariants.{Four}
 use Rattle.lb_rv.specs.declared.instr.Instr.TheVariants as instr
 use Rattle.lb_flat.specs.declared.places.Place.{Place}
 use Rattle.lb_flat.specs.declared.places.Place.TheVariants.{Register, Slot}
 use Rattle.lb_flat.specs.Code.{Operation, Constant, Copy, Compute, Load, Store, Call, Access}
 use Rattle.lb_flat.specs.Code.{Code, Plain, Reserve, Branch, Loop, Nothing, Sequence, sites, Routine}
 use Rattle.lb_flat.specs.Needs.{slot_words, operation_words}
-use Rattle.lb_emit_laws.specs.Instructions.{immediate, jump, skip_unless_zero, is_short, is_upper, literal_by, literal_code, literal_words_by, literal_words, is_reached, reach_words, get_by, get_code, put_by, put_code, address_code, down_by, down_code, up_by, up_code, saves_code, loads_code, op_code, access_instr}
+use Rattle.lb_emit_laws.specs.Instructions.{immediate, jump, skip_unless_zero, is_short, is_upper, literal_by, literal_code, literal_words_by, literal_words, is_reached, reach_words, get_by, get_code, put_by, put_code, address_code, down_by, down_code, up_by, up_code, saves_code, loads_code, op_code, load_instr, store_instr}
 use Rattle.lb_emit_laws.specs.Frames.{Frame, slot_offset}
-use Rattle.lb_emit_laws.specs.Code.{place_words, places_words, get_place, put_place, gets_code, puts_code, plain_words, plain_code, register_of, code_words, command_code, body_place, routine_code, routine_words}
+use Rattle.lb_emit_laws.specs.Code.{place_words, places_words, get_place, put_place, gets_code, puts_code, value_register, fetch_code, keep_code, fetch_words, access_code, access_words, plain_words, plain_code, register_of, over_by, over_code, over_words_by, over_words, code_words, command_code, body_place, routine_code, routine_words}
 
 -- ---- pieces
 
@@ -93,7 +97,37 @@ pub puts_length : (f : Frame) (ps : List Place) (i : ℕ) → length (puts_code 
 puts_length f [] i = refl
 puts_length f (p ∷ ps) i = length-append (put_place f p i) (puts_code f ps (i + 1)) ∙ omega (arith, put_place_length f p i, puts_length f ps (i + 1))
 
+pub fetch_length : (f : Frame) (i : ℕ) (p : Place) → length (fetch_code f i p) ≡ fetch_words f p
+fetch_length f i (Register r) = refl
+fetch_length f i (Slot k) = get_length i (slot_offset f k)
+
+pub keep_length : (f : Frame) (p : Place) (i : ℕ) → length (keep_code f p i) ≡ fetch_words f p
+keep_length f (Register r) i = refl
+keep_length f (Slot k) i = put_length (slot_offset f k) i
+
+access_length : (f : Frame) (k : Action) (xs ys : List Place) → length (access_code f k xs ys) ≡ access_words f k xs ys
+access_length f Read (a ∷ []) (y ∷ []) =
+    length-append (fetch_code f 10 a) (load_instr Four (value_register 10 y) (value_register 10 a) ∷ keep_code f y 10) ∙ omega (arith, fetch_length f 10 a, keep_length f y 10)
+access_length f Write (a ∷ x ∷ []) [] =
+    let last = store_instr Four (value_register 10 a) (value_register 11 x) ∷ [] in
+    length-append (fetch_code f 10 a) (fetch_code f 11 x ++ last) ∙ omega (arith, length-append (fetch_code f 11 x) last, fetch_length f 10 a, fetch_length f 11 x)
+access_length f k xs ys = refl
+
 -- ---- commands
+
+over_by_length : (none : Bool) (i n : ℕ) → length (over_by none i n) ≡ over_words_by none
+over_by_length true i n = refl
+over_by_length false i n = refl
+
+pub over_length : (i n : ℕ) → length (over_code i n) ≡ over_words n
+over_length i n = over_by_length (n == 0) i n
+
+over_by_at_most : (none : Bool) → over_words_by none ≤ 1
+over_by_at_most true = omega arith
+over_by_at_most false = omega arith
+
+pub over_at_most : (n : ℕ) → over_words n ≤ 1
+over_at_most n = over_by_at_most (n == 0)
 
 pub plain_length : (f : Frame) (entry : ℕ → ℕ) (i : ℕ) (o : Operation) (xs ys : List Place) → length (plain_code f entry i o xs ys) ≡ plain_words f o xs ys
 plain_length f entry i (Constant v) [] (Register y ∷ []) = literal_length y v
@@ -105,8 +139,7 @@ plain_length f entry i (Load w) (Register a ∷ []) (Register y ∷ []) = refl
 plain_length f entry i (Store w) (Register a ∷ Register x ∷ []) [] = refl
 plain_length f entry i (Call g) xs ys =
     length-append (gets_code f 10 xs) (jump 1 (i + places_words f xs) (entry g) ∷ puts_code f ys 10) ∙ omega (arith, gets_length f 10 xs, puts_length f ys 10)
-plain_length f entry i (Access k) xs ys =
-    length-append (gets_code f 10 xs) (access_instr k ∷ puts_code f ys 10) ∙ omega (arith, gets_length f 10 xs, puts_length f ys 10)
+plain_length f entry i (Access k) xs ys = access_length f k xs ys
 plain_length f entry i o xs ys = refl
 
 pub command_length : (f : Frame) (entry : ℕ → ℕ) (os : List ℕ) (i : ℕ) (c : Code Place) → length (command_code f entry os i c) ≡ code_words f c
@@ -116,12 +149,15 @@ command_length f entry [] i (Reserve n y b) =
 command_length f entry (o ∷ os) i (Reserve n y b) =
     length-append (address_code (register_of y) o) (command_code f entry os (i + 3) b) ∙ omega (arith, command_length f entry os (i + 3) b)
 command_length f entry os i (Branch x b d) =
+    let j = i + 2 + code_words f b in
+    let wd = code_words f d in
     let first = command_code f entry os (i + 2) b in
-    let second = command_code f entry (drop (length (sites b)) os) (i + 2 + code_words f b + 1) d in
-    let all = length-append first (jump 0 (i + 2 + code_words f b) (i + 2 + code_words f b + 1 + code_words f d) ∷ second) in
+    let second = command_code f entry (drop (length (sites b)) os) (j + over_words wd) d in
+    let all = length-append first (over_code j wd ++ second) in
+    let behind = length-append (over_code j wd) second in
     let left = command_length f entry os (i + 2) b in
-    let right = command_length f entry (drop (length (sites b)) os) (i + 2 + code_words f b + 1) d in
-    omega (arith, all, left, right)
+    let right = command_length f entry (drop (length (sites b)) os) (j + over_words wd) d in
+    omega (arith, all, behind, over_length j wd, left, right)
 command_length f entry os i (Loop b x d) =
     let head = command_code f entry os i b in
     let body = command_code f entry (drop (length (sites b)) os) (i + code_words f b + 2) d in

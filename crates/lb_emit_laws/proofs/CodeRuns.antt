@@ -1,11 +1,11 @@
 -- What a run of code comes to: states of placed code that are reached, what a call owes, and tests of a register.
 use Rattle.std.proofs.Common.{◌≡◌, ℕ, ◌+◌, ◌*◌, ◌%◌, ◌^◌, ◌≤◌, ◌<◌, Bool, true, false, ◌&&◌, if◌then◌else◌, List, length, Some, None, refl, sym, ap, ◌∙◌, subst, arith}
-use Rattle.std.proofs.lemmas.Bool.{eq-eqb, ne_eqb}
+use Rattle.std.proofs.lemmas.Bool.{eq-eqb, eqb-true, ne_eqb}
 use Rattle.std.specs.Prelude.{◌==◌}
 use Rattle.lb_memory.specs.Map.{is_device}
 use Rattle.lb_trace.specs.declared.Event.{Event}
 use Rattle.lb_steps.proofs.MoveLemmas.{Moves-none, Moves-one, Moves-then, LeadsTo}
-use Rattle.lb_steps.proofs.Simulation.{Tests, fits}
+use Rattle.lb_steps.proofs.Simulation.{Tests, fits, move_behind}
 use Rattle.lb_source.specs.Correct.{AreWords}
 use Rattle.lb_source.specs.Maps.{Memory}
 use Rattle.lb_source.specs.Run.{address_fault}
@@ -20,10 +20,11 @@ use Rattle.lb_flat.specs.Code.{Routine}
 use Rattle.lb_flat.specs.Cells.{Cells}
 use Rattle.lb_flat.specs.Run.{World, Outcome, Caller}
 use Rattle.lb_emit_laws.specs.Instructions.{immediate, jump, skip_unless_zero}
+use Rattle.lb_emit_laws.specs.Code.{over_by, over_code, over_words_by, over_words}
 use Rattle.lb_emit_laws.specs.Frames.{Frame, slot_offset}
 use Rattle.lb_emit_laws.proofs.Bytes.{Bytes, Registers, read_same}
 use Rattle.lb_emit_laws.proofs.Owned.{is_owned, Holds, unowned_below}
-use Rattle.lb_emit_laws.proofs.Places.{IsAt}
+use Rattle.lb_emit_laws.proofs.Places.{IsAt, HasAt}
 use Rattle.lb_emit_laws.proofs.Steps.{advance, at, trace_of, IsWaiting, next_address-at, below_end, step_goes, step_jumps}
 use Rattle.lb_emit_laws.proofs.Outcomes.{FlatComes}
 use Rattle.lb_emit_laws.proofs.Ordered.{is_in, Budget, Called}
@@ -162,6 +163,21 @@ module _ (code : List ℕ) (small : length code ≤ 32768) where
         moves = ap (advance code) a.is ∙ step;
         stands = record { after = a.after; left = a.left; is = ap (λ n. at n a.after a.left s.1.replies s.1.trace) same; matches = a.matches; leaves = a.leaves };
       }
+
+  over_by_comes : {sp : ℕ} {f : Frame} {c : RunState} {fuel : ℕ} (none : Bool) (n i k len : ℕ) (memory : Memory) (registers : Registers) (ram : Bytes) (o : Outcome Cells) → none ≡ (n == 0) → HasAt code i (over_by none i n)
+      → k ≤ 32768 → i + over_words_by none + n ≡ k
+      → CodeComes code (Reach sp f i memory registers ram) len c fuel o → CodeComes code (Reach sp f k memory registers ram) (len + over_words_by none) c fuel o
+  over_by_comes true n i k len memory registers ram o is here near e a =
+      let empty = eqb-true n 0 (sym is) in
+      fits (omega arith) (λ s d z. Reach-to k (omega (arith, e, empty)) z) a
+  over_by_comes false n i k len memory registers ram o is here near e a =
+      move_behind {la = len} (omega arith) a (λ s d z. jumps_to i (i + 1 + n) k memory registers ram s d here.0 (omega (arith, near, e)) e z)
+
+  -- what goes over a block of n instructions, to number k behind it
+  pub over_comes : {sp : ℕ} {f : Frame} {c : RunState} {fuel : ℕ} (n i k len : ℕ) (memory : Memory) (registers : Registers) (ram : Bytes) (o : Outcome Cells) → HasAt code i (over_code i n)
+      → k ≤ 32768 → i + over_words n + n ≡ k
+      → CodeComes code (Reach sp f i memory registers ram) len c fuel o → CodeComes code (Reach sp f k memory registers ram) (len + over_words n) c fuel o
+  over_comes n i k len memory registers ram o here near e a = over_by_comes (n == 0) n i k len memory registers ram o refl here near e a
 
 -- ---- devices
 

@@ -11,17 +11,17 @@ use Rattle.lb_flat.specs.Run.{World, Goes, Caller, run_with, owned, disowned}
 use Rattle.lb_flat.specs.Whole.{itself}
 use Rattle.lb_emit_laws.specs.Instructions.{jump, skip_unless_zero, address_code}
 use Rattle.lb_emit_laws.specs.Frames.{Frame}
-use Rattle.lb_emit_laws.specs.Code.{code_words, command_code}
+use Rattle.lb_emit_laws.specs.Code.{over_code, over_words, code_words, command_code}
 use Rattle.lb_emit_laws.proofs.Bytes.{Bytes, Registers}
 use Rattle.lb_emit_laws.proofs.Owned.{Holds-allocated, Holds-released}
 use Rattle.lb_emit_laws.proofs.Places.{HasAt, HasAt-front, HasAt-behind, HasAt-to}
 use Rattle.lb_emit_laws.proofs.Steps.{advance, at, trace_of}
 use Rattle.lb_emit_laws.proofs.Outcomes.{seq_comes, value_comes, branch_comes, loop_comes}
 use Rattle.lb_emit_laws.proofs.Ordered.{Budget, InOrder}
-use Rattle.lb_emit_laws.proofs.CodeLengths.{command_length}
+use Rattle.lb_emit_laws.proofs.CodeLengths.{command_length, over_length}
 use Rattle.lb_emit_laws.proofs.Pieces.{Gives, address_gives}
 use Rattle.lb_emit_laws.proofs.Relation.{found, blocks_from, Matches, Reach, Left-same, Left-then, Left-set, Left-block, Matches-set, Matches-memory}
-use Rattle.lb_emit_laws.proofs.CodeRuns.{CallOk, CodeComes, Reach-to, Reach-fuel, jumps_to, onward, tests_at}
+use Rattle.lb_emit_laws.proofs.CodeRuns.{CallOk, CodeComes, Reach-to, Reach-fuel, jumps_to, onward, over_comes, tests_at}
 use Rattle.lb_emit_laws.proofs.PlainRuns.{plain_comes}
 
 module _ (code : List ℕ) (small : length code ≤ 32768) (sp room : ℕ) (f : Frame) (low : 0x30000 + room ≤ sp) (fit : 4 * (length f.saved + f.slots) ≤ f.size) (high : sp + f.size ≤ 0x40000)
@@ -50,25 +50,26 @@ module _ (code : List ℕ) (small : length code ≤ 32768) (sp room : ℕ) (f : 
       let os2 = drop (length (sites b)) os in
       let wb = code_words f b in
       let wd = code_words f d in
+      let j = i + 2 + wb in
+      let k = j + over_words wd in
       let first = command_code f entry os (i + 2) b in
-      let last = jump 0 (i + 2 + wb) (i + 2 + wb + 1 + wd) in
-      let second = command_code f entry os2 (i + 2 + wb + 1) d in
+      let second = command_code f entry os2 k d in
       let all = code_words f (Branch (Register r) b d) in
-      let e : i + 2 + wb + 1 + wd ≡ i + all = omega arith in
-      let inner = HasAt-to code (i + 1 + 1) (i + 2) (first ++ last ∷ second) here.1.1 (omega arith) in
-      let tail = HasAt-behind code (i + 2) (i + 2 + wb) wb first (last ∷ second) inner (command_length f entry os (i + 2) b) refl in
+      let e : k + wd ≡ i + all = omega arith in
+      let inner = HasAt-to code (i + 1 + 1) (i + 2) (first ++ (over_code j wd ++ second)) here.1.1 (omega arith) in
+      let tail = HasAt-behind code (i + 2) j wb first (over_code j wd ++ second) inner (command_length f entry os (i + 2) b) refl in
+      let behind = HasAt-behind code j k (over_words wd) (over_code j wd) second tail (over_length j wd) refl in
       value_comes (or_unset (cells (Register r))) w _ (λ v is.
       let held = m.held r v (found (cells (Register r)) v is) in
-      branch_comes {la = wd} {lb = wb + 1} v _ _ (omega arith) (omega arith)
-      (tests_at code small i (i + 2 + wb + 1) r v registers ram w.replies w.trace (λ k. k ≡ at (i + 2 + wb + 1) registers ram w.replies w.trace) (λ k. k ≡ at (i + 2) registers ram w.replies w.trace)
+      branch_comes {la = wd} {lb = wb + over_words wd} v _ _ (omega arith) (omega arith)
+      (tests_at code small i k r v registers ram w.replies w.trace (λ c. c ≡ at k registers ram w.replies w.trace) (λ c. c ≡ at (i + 2) registers ram w.replies w.trace)
       m.none held.is (omega (arith, near, small)) here.0 here.1.0 refl refl)
-      (λ k z. subst (λ k. CodeComes code (Reach sp f (i + all) w.memory registers ram) wd k w.fuel (run_with (itself 0) call bound os2 d cells w)) (sym z)
+      (λ c z. subst (λ c. CodeComes code (Reach sp f (i + all) w.memory registers ram) wd c w.fuel (run_with (itself 0) call bound os2 d cells w)) (sym z)
       (fits (omega arith) (λ s n q. Reach-to (i + all) e q)
-      (hd os2 (i + 2 + wb + 1) cells w registers ram h.2 (tail.1) (omega (arith, near)) few m)))
-      (λ k z. subst (λ k. CodeComes code (Reach sp f (i + all) w.memory registers ram) (wb + 1) k w.fuel (run_with (itself 0) call bound os b cells w)) (sym z)
-      (move_behind {la = wb} (omega arith)
-      (hb os (i + 2) cells w registers ram h.1 (HasAt-front code (i + 2) first (last ∷ second) inner) (omega (arith, near)) few m)
-      (λ s n a. jumps_to code small (i + 2 + wb) (i + 2 + wb + 1 + wd) (i + all) w.memory registers ram s n tail.0 (omega (arith, near, small)) e a))))
+      (hd os2 k cells w registers ram h.2 behind (omega (arith, near)) few m)))
+      (λ c z. subst (λ c. CodeComes code (Reach sp f (i + all) w.memory registers ram) (wb + over_words wd) c w.fuel (run_with (itself 0) call bound os b cells w)) (sym z)
+      (over_comes code small wd j (i + all) wb w.memory registers ram (run_with (itself 0) call bound os b cells w) (HasAt-front code j (over_code j wd) second tail) (omega (arith, near, small)) e
+      (hb os (i + 2) cells w registers ram h.1 (HasAt-front code (i + 2) first (over_code j wd ++ second) inner) (omega (arith, near)) few m))))
 
   loop_done : (b : Code Place) (r : ℕ) (d : Code Place) → Done b → Done d → Done (Loop b (Register r) d)
   loop_done b r d hb hd os i cells w registers ram h here near few m =

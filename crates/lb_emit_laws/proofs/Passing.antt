@@ -12,14 +12,14 @@ use Rattle.lb_flat.specs.Run.{World, values}
 use Rattle.lb_flat.specs.Whole.{itself}
 use Rattle.lb_emit_laws.specs.Instructions.{reach_words}
 use Rattle.lb_emit_laws.specs.Frames.{Frame, slot_offset}
-use Rattle.lb_emit_laws.specs.Code.{get_place, put_place, gets_code, puts_code, place_words, places_words}
+use Rattle.lb_emit_laws.specs.Code.{get_place, put_place, gets_code, puts_code, place_words, places_words, value_register, fetch_code, fetch_words}
 use Rattle.lb_emit_laws.proofs.Bytes.{Bytes, Registers, IsWritable}
 use Rattle.lb_emit_laws.proofs.CodeLengths.{get_place_length, put_place_length}
 use Rattle.lb_emit_laws.proofs.Ordered.{IsSource, AreSources, IsPlaceTarget, ArePlaceTargets}
 use Rattle.lb_emit_laws.proofs.Places.{HasAt, HasAt-front, HasAt-behind}
 use Rattle.lb_emit_laws.proofs.Steps.{advance, at}
 use Rattle.lb_emit_laws.proofs.Pieces.{Gives, copy_gives, get_gives, put_puts}
-use Rattle.lb_emit_laws.proofs.Relation.{Quiet, Quiet-changed, found, Matches, Left, Left-same, Left-then, Left-set, Left-slot, Matches-quiet, Matches-set, Matches-slot}
+use Rattle.lb_emit_laws.proofs.Relation.{Changed, Quiet, Quiet-changed, found, Matches, Left, Left-same, Left-then, Left-set, Left-slot, Matches-quiet, Matches-set, Matches-slot}
 
 -- these words stand in the registers from number i on
 abbrev pub Passed : ℕ → List ℕ → Registers → Type 0
@@ -66,6 +66,20 @@ pub record Passes (code : List ℕ) (j k : ℕ) (registers : Registers) (ram : B
   pub goes : Moves (advance code) steps (at j registers ram replies trace) (at k after ram replies trace)
   pub passed : Passed i vs after
   pub others : (r : ℕ) → r ≢ 5 → r < i ⊎ 18 ≤ r → after r ≡ registers r
+
+-- the machine comes from number j to k, and the value of a place stands in its register, or in register i
+pub record Fetches (code : List ℕ) (j k : ℕ) (registers : Registers) (ram : Bytes) (replies : List ℕ) (trace : List Event) (i : ℕ) (p : Place) (v : ℕ) : Type 0 where
+  pub after : Registers
+  pub steps : ℕ
+  pub count : j + steps ≡ k
+  pub goes : Moves (advance code) steps (at j registers ram replies trace) (at k after ram replies trace)
+  pub is : after (value_register i p) ≡ v
+  pub word : v < 2 ^ 32
+  pub others : Changed i registers after
+
+pub outside : (r i : ℕ) → 10 ≤ i → i < 18 → r < 10 ⊎ 18 ≤ r → r ≢ i
+outside r i lo hi (inl h) = omega arith
+outside r i lo hi (inr h) = omega (arith, hi)
 
 -- from number j to k, where nothing but cells changes
 pub record Straight (code : List ℕ) (sp : ℕ) (f : Frame) (j k : ℕ) (w : World) (registers : Registers) (ram : Bytes) (cells : Cells) : Type 0 where
@@ -131,6 +145,23 @@ module _ (code : List ℕ) (small : length code ≤ 32768) (sp : ℕ) (f : Frame
       apart_from r i lo hi (inl h) = omega arith
       apart_from r i lo hi (inr h) = omega (arith, hi)
 
+  pub fetch_finds : (p : Place) (i j v : ℕ) (cells : Cells) (w : World) (registers : Registers) (ram : Bytes) (replies : List ℕ) (trace : List Event) → IsWritable i → IsSource f p → or_unset (cells p) ≡ Ok v
+      → Matches sp f cells w registers ram → HasAt code j (fetch_code f i p) → Fetches code j (j + fetch_words f p) registers ram replies trace i p v
+  fetch_finds (Register r) i j v cells w registers ram replies trace some source is m here =
+      let h = m.held r v (found (cells (Register r)) v is) in
+      record {
+        after = registers;
+        steps = 0;
+        count = refl;
+        goes = let z : j ≡ j + 0 = omega arith in subst (λ k. Moves (advance code) 0 (at j registers ram replies trace) (at k registers ram replies trace)) z (Moves-none (advance code) _);
+        is = h.is;
+        word = h.word;
+        others = λ x n n5. refl;
+      }
+  fetch_finds (Slot k) i j v cells w registers ram replies trace some source is m here =
+      let g = place_gives (Slot k) i j v cells w registers ram replies trace some source is m here in
+      record { after = g.0.after; steps = g.0.steps; count = g.0.count; goes = g.0.goes; is = g.0.value; word = g.1; others = g.0.others }
+
   -- a slot is set from a register that isn't the code's own
   pub slot_puts : (k rs j v : ℕ) (cells : Cells) (w : World) (registers : Registers) (ram : Bytes) → rs ≢ 5 → registers rs ≡ v → v < 2 ^ 32 → k < f.slots
       → Matches sp f cells w registers ram → HasAt code j (put_place f (Slot k) rs)
@@ -150,7 +181,7 @@ module _ (code : List ℕ) (small : length code ≤ 32768) (sp : ℕ) (f : Frame
       }
 
   -- one place is set from a register
-  pub place_puts : (p : Place) (rs j v : ℕ) (cells : Cells) (w : World) (registers : Registers) (ram : Bytes) → 10 ≤ rs → registers rs ≡ v → v < 2 ^ 32 → IsPlaceTarget f p
+  place_puts : (p : Place) (rs j v : ℕ) (cells : Cells) (w : World) (registers : Registers) (ram : Bytes) → 10 ≤ rs → registers rs ≡ v → v < 2 ^ 32 → IsPlaceTarget f p
       → Matches sp f cells w registers ram → HasAt code j (put_place f p rs)
       → Straight code sp f j (j + place_words f p) w registers ram (put p (Some v) cells)
   place_puts (Register r) rs j v cells w registers ram lo is word t m here =

@@ -1,17 +1,16 @@
 -- The code of a plain command does what the command does.
-use Rattle.std.proofs.Common.{◌≡◌, ◌≢◌, ℕ, ◌+◌, ◌*◌, ◌^◌, ◌≤◌, ◌<◌, inl, inr, List, [], ◌∷◌, ◌++◌, length, Some, None, Result, Ok, refl, sym, ap, ◌∙◌, subst, arith}
+use Rattle.std.proofs.Common.{◌≡◌, ◌≢◌, ℕ, ◌+◌, ◌*◌, ◌^◌, ◌≤◌, ◌<◌, inl, inr, List, [], ◌∷◌, ◌++◌, length, Some, None, Ok, refl, sym, ap, ◌∙◌, subst, arith}
 use Rattle.lb_trace.specs.declared.Event.{Event}
 use Rattle.lb_trace.specs.declared.Event.TheVariants.{Ld, St}
 use Rattle.lb_syntax.specs.declared.tree.Width.{Width}
 use Rattle.lb_syntax.specs.declared.tree.Width.TheVariants.{One, Two, Four}
 use Rattle.lb_syntax.specs.declared.tree.Action.TheVariants.{Read, Write}
-use Rattle.lb_steps.proofs.MoveLemmas.{Moves-one}
+use Rattle.lb_steps.proofs.MoveLemmas.{Moves, Moves-one, Moves-then}
 use Rattle.lb_steps.proofs.Simulation.{arrived, starving, fits, leading}
 use Rattle.lb_source.specs.Correct.{AreWords}
 use Rattle.lb_source.specs.Maps.{Memory}
-use Rattle.lb_source.specs.Value.{operate, load, or_unset, byte_count, before}
+use Rattle.lb_source.specs.Value.{operate, load, or_unset, byte_count}
 use Rattle.lb_source.specs.Run.{store, address_fault}
-use Rattle.lb_source.specs.declared.ends.Reason.{Reason}
 use Rattle.lb_rv.specs.Effects.{plus_immediate}
 use Rattle.lb_rv.specs.Effects as effects
 use Rattle.lb_outcome.specs.Ram.{number_at, with_bytes}
@@ -24,27 +23,20 @@ use Rattle.lb_flat.specs.Code.{Routine}
 use Rattle.lb_flat.specs.Needs.{operation_words}
 use Rattle.lb_flat.specs.Run.{World, Outcome, Goes, Caller, ask, effect, gives, then_do, values, with_value}
 use Rattle.lb_flat.specs.Whole.{itself}
-use Rattle.lb_emit_laws.specs.Instructions.{immediate, jump, literal_words, reach_words, load_instr, store_instr, access_instr}
+use Rattle.lb_emit_laws.specs.Instructions.{immediate, jump, literal_words, reach_words, load_instr, store_instr}
 use Rattle.lb_emit_laws.specs.Frames.{Frame, slot_offset}
-use Rattle.lb_emit_laws.specs.Code.{place_words, places_words, put_place, gets_code, puts_code, plain_words, plain_code}
+use Rattle.lb_emit_laws.specs.Code.{places_words, gets_code, puts_code, value_register, fetch_code, keep_code, fetch_words, plain_words, plain_code}
 use Rattle.lb_emit_laws.proofs.Bytes.{Bytes, Registers, IsWritable, set_same, set_other}
 use Rattle.lb_emit_laws.proofs.Owned.{Loaded, Holds-lower, unowned_below, width_above, width_loaded, width_small, store_writes}
 use Rattle.lb_emit_laws.proofs.Places.{HasAt, HasAt-front, HasAt-behind}
 use Rattle.lb_emit_laws.proofs.Steps.{advance, at, step_asks, step_loads, step_stores, step_tells, step_wants}
 use Rattle.lb_emit_laws.proofs.Outcomes.{seq_comes, one_value_comes, two_values_comes, value_comes, value_then_comes, unless_then_comes}
-use Rattle.lb_emit_laws.proofs.Ordered.{IsTarget, IsPlaceTarget, Budget, Called, IsPlainInOrder}
-use Rattle.lb_emit_laws.proofs.CodeLengths.{gets_length}
+use Rattle.lb_emit_laws.proofs.Ordered.{IsSource, IsTarget, IsPlaceTarget, Budget, Called, IsPlainInOrder}
+use Rattle.lb_emit_laws.proofs.CodeLengths.{fetch_length, gets_length}
 use Rattle.lb_emit_laws.proofs.Pieces.{Gives, copy_gives, get_gives, literal_gives, one_gives, op_gives, operate_below, plus_zero}
 use Rattle.lb_emit_laws.proofs.Relation.{Changed, Quiet, Quiet-changed, found, Held, blocks_from, Matches, Reach, Left-same, Left-then, Left-quiet, Left-set, Left-store, Matches-quiet, Matches-set, Matches-memory}
-use Rattle.lb_emit_laws.proofs.Passing.{Passes, Straight, gets_pass, place_puts, puts_set, slot_puts, values_length}
+use Rattle.lb_emit_laws.proofs.Passing.{Passes, Straight, fetch_finds, gets_pass, outside, puts_set, slot_puts, values_length}
 use Rattle.lb_emit_laws.proofs.CodeRuns.{CallOk, Calling, CodeComes, Left-returned, Matches-returned, Reach-to, device_fine}
-
--- values of places, from the values one by one
-one : (r : Result ℕ Reason) (v : ℕ) → r ≡ Ok v → before r (Ok []) ≡ Ok (v ∷ [])
-one r v is = ap (λ (q : Result ℕ Reason). before q (Ok [])) is
-
-both : (q r : Result ℕ Reason) (u v : ℕ) → q ≡ Ok u → r ≡ Ok v → before q (before r (Ok [])) ≡ Ok (u ∷ v ∷ [])
-both q r u v is was = ap (λ (x : Result ℕ Reason). before x (before r (Ok []))) is ∙ ap (λ (x : Result ℕ Reason). before (Ok u) (before x (Ok []))) was
 
 module _ (code : List ℕ) (small : length code ≤ 32768) (sp room : ℕ) (f : Frame) (low : 0x30000 + room ≤ sp) (fit : 4 * (length f.saved + f.slots) ≤ f.size) (high : sp + f.size ≤ 0x40000) where
   -- one register was set
@@ -130,17 +122,34 @@ module _ (code : List ℕ) (small : length code ≤ 32768) (sp room : ℕ) (f : 
   abbrev sets : List Place → Cells → List ℕ → World → Outcome Cells
   sets ys cells rs u = Goes (set_all (itself 0) ys rs cells) u
 
-  -- a device is read, and then the target is set
-  asked : (t : Place) (i a : ℕ) (replies : List ℕ) (cells : Cells) (w : World) (registers : Registers) (ram : Bytes) → w.replies ≡ replies → IsPlaceTarget f t → registers 10 ≡ a → a < 2 ^ 32 → address_fault a ≡ None
-      → Matches sp f cells w registers ram → HasAt code i (access_instr Read ∷ puts_code f (t ∷ []) 10)
-      → CodeComes code (Reach sp f (i + 1 + place_words f t) w.memory registers ram) (1 + place_words f t) (at i registers ram replies w.trace) w.fuel
+  -- a device is read, at the address in register b, and then the target is set
+  asked : (t : Place) (i b a : ℕ) (replies : List ℕ) (cells : Cells) (w : World) (registers : Registers) (ram : Bytes) → w.replies ≡ replies → IsPlaceTarget f t → registers b ≡ a → a < 2 ^ 32 → address_fault a ≡ None
+      → Matches sp f cells w registers ram → HasAt code i (load_instr Four (value_register 10 t) b ∷ keep_code f t 10)
+      → CodeComes code (Reach sp f (i + 1 + fetch_words f t) w.memory registers ram) (1 + fetch_words f t) (at i registers ram replies w.trace) w.fuel
       (then_do (ask replies a w (λ v u. Goes (v ∷ []) u)) (sets (t ∷ []) cells))
-  asked t i a [] cells w registers ram same target is word fine m here =
-      let e : effects.Loads (plus_immediate (registers 10) (immediate 0)) ≡ effects.Loads a = ap (λ k. effects.Loads k) (plus_zero (registers 10) a is word) in
-      starving (step_wants code small i a registers ram w.trace (access_instr Read) here.0 refl e (device_fine a fine)) refl
-  asked t i a (v ∷ vs) cells w registers ram same target is word fine m here =
-      let e : effects.Loads (plus_immediate (registers 10) (immediate 0)) ≡ effects.Loads a = ap (λ k. effects.Loads k) (plus_zero (registers 10) a is word) in
-      let step = step_asks code small i a v registers ram vs w.trace (access_instr Read) 10 here.0 refl refl e (device_fine a fine) in
+  asked t i b a [] cells w registers ram same target is word fine m here =
+      let e : effects.Loads (plus_immediate (registers b) (immediate 0)) ≡ effects.Loads a = ap (λ k. effects.Loads k) (plus_zero (registers b) a is word) in
+      starving (step_wants code small i a registers ram w.trace (load_instr Four (value_register 10 t) b) here.0 refl e (device_fine a fine)) refl
+  asked (Register y) i b a (v ∷ vs) cells w registers ram same target is word fine m here =
+      let e : effects.Loads (plus_immediate (registers b) (immediate 0)) ≡ effects.Loads a = ap (λ k. effects.Loads k) (plus_zero (registers b) a is word) in
+      let step = step_asks code small i a v registers ram vs w.trace (load_instr Four y b) y here.0 refl refl e (device_fine a fine) in
+      let r1 = with_register y v registers in
+      let u = record w { replies = vs; trace = w.trace ++ Ld a v ∷ [] } in
+      let words = subst (λ (l : List ℕ). AreWords l) same m.replies in
+      let c : Changed y registers r1 = λ r n n5. set_other y v registers r n in
+      let some : IsWritable y = (omega (arith, target.from), target.below) in
+      let m1 : Matches sp f cells u registers ram = record { none = m.none; base = m.base; stack = m.stack; held = m.held; slots = m.slots; holds = m.holds; replies = words.1 } in
+      let z : i + 1 ≡ i + 1 + 0 = omega arith in
+      leading {la = 0} (Moves-one step) (omega arith) (arrived (put (Register y) (Some v) cells, u) (record {
+        after = r1;
+        left = ram;
+        is = ap (λ n. at n r1 ram vs (w.trace ++ Ld a v ∷ [])) z;
+        matches = Matches-set y v target words.0 (set_same y v registers some) c m1;
+        leaves = Left-set w.memory registers r1 ram y target c;
+      }))
+  asked (Slot k) i b a (v ∷ vs) cells w registers ram same target is word fine m here =
+      let e : effects.Loads (plus_immediate (registers b) (immediate 0)) ≡ effects.Loads a = ap (λ k. effects.Loads k) (plus_zero (registers b) a is word) in
+      let step = step_asks code small i a v registers ram vs w.trace (load_instr Four 10 b) 10 here.0 refl refl e (device_fine a fine) in
       let r1 = with_register 10 v registers in
       let u = record w { replies = vs; trace = w.trace ++ Ld a v ∷ [] } in
       let words = subst (λ (l : List ℕ). AreWords l) same m.replies in
@@ -156,10 +165,16 @@ module _ (code : List ℕ) (small : length code ≤ 32768) (sp room : ℕ) (f : 
         replies = words.1;
       } in
       let some : IsWritable 10 = (omega arith, omega arith) in
-      let first = place_puts code small sp f (omega (arith, low)) fit high t 10 (i + 1) v cells u r1 ram (omega arith) (set_same 10 v registers some) words.0 target m1 (HasAt-front code (i + 1) (put_place f t 10) [] here.1) in
-      leading {la = place_words f t} (Moves-one step) (omega arith)
-      (fits (omega arith) (λ s k z. record { after = z.after; left = z.left; is = z.is; matches = z.matches; leaves = Left-then (Left-quiet w.memory registers r1 ram q) z.leaves })
-      (straight_comes (i + 1) (place_words f t) u r1 ram (put t (Some v) cells) first))
+      let n5 : ◌≢◌ {A = ℕ} 10 5 = omega arith in
+      let first = slot_puts code small sp f (omega (arith, low)) fit high k 10 (i + 1) v cells u r1 ram n5 (set_same 10 v registers some) words.0 target m1 here.1 in
+      leading {la = fetch_words f (Slot k)} (Moves-one step) (omega arith)
+      (fits (omega arith) (λ s d z. record { after = z.after; left = z.left; is = z.is; matches = z.matches; leaves = Left-then (Left-quiet w.memory registers r1 ram q) z.leaves })
+      (straight_comes (i + 1) (fetch_words f (Slot k)) u r1 ram (put (Slot k) (Some v) cells) first))
+
+  -- the first argument of two stays where it is while the second one comes
+  first_apart : (a : Place) → IsSource f a → (value_register 10 a ≢ 11) × (value_register 10 a ≢ 5)
+  first_apart (Register r) s = (omega (arith, s.from), omega (arith, s.from))
+  first_apart (Slot k) s = let n : ◌≢◌ {A = ℕ} 10 11 = omega arith in let n5 : ◌≢◌ {A = ℕ} 10 5 = omega arith in (n, n5)
 
   module _ (fs : List (Routine Place)) (entry : ℕ → ℕ) (call : Caller) (bound : ℕ) (ok : CallOk code fs entry call bound) where
     -- the code of a plain command at number i does what the command does
@@ -194,41 +209,63 @@ module _ (code : List ℕ) (small : length code ≤ 32768) (sp room : ℕ) (f : 
 
     read_done : (a t : Place) → PlainDone (Access Read) (a ∷ []) (t ∷ [])
     read_done a t i cells w registers ram h here few m =
-        let pw = places_words f (a ∷ []) in
-        let front = gets_code f 10 (a ∷ []) in
-        let rest = access_instr Read ∷ puts_code f (t ∷ []) 10 in
-        let e : i + pw + 1 + place_words f t ≡ i + (pw + (1 + (place_words f t + 0))) = omega arith in
-        let behind = HasAt-behind code i (i + pw) pw front rest here (gets_length f 10 (a ∷ [])) refl in
+        let pw = fetch_words f a in
+        let front = fetch_code f 10 a in
+        let rest = load_instr Four (value_register 10 t) (value_register 10 a) ∷ keep_code f t 10 in
+        let e : i + pw + 1 + fetch_words f t ≡ i + (pw + (1 + fetch_words f t)) = omega arith in
+        let behind = HasAt-behind code i (i + pw) pw front rest here (fetch_length f 10 a) refl in
         one_value_comes (or_unset (cells a)) w (λ vs. then_do (gives (Access Read) vs w) (sets (t ∷ []) cells)) (λ v is.
-        let values_is : values (itself 0) (a ∷ []) cells ≡ Ok (v ∷ []) = one (or_unset (cells a)) v is in
-        let b = gets_pass code small sp f (omega (arith, low)) fit high (a ∷ []) 10 i (v ∷ []) cells w registers ram w.replies w.trace (h.0, tt) values_is (omega arith) (omega arith) m (HasAt-front code i front rest here) in
-        passed_comes {len = 1 + (place_words f t + 0)} (then_do (gives (Access Read) (v ∷ []) w) (sets (t ∷ []) cells)) pw b m (λ m1.
+        let b = fetch_finds code small sp f (omega (arith, low)) fit high a 10 i v cells w registers ram w.replies w.trace (omega arith, omega arith) h.0 is m (HasAt-front code i front rest here) in
+        let passed : Passes code i (i + pw) registers ram w.replies w.trace 10 [] = record {
+          after = b.after;
+          steps = b.steps;
+          count = b.count;
+          goes = b.goes;
+          passed = tt;
+          others = λ r n k. b.others r (outside r 10 (omega arith) (omega arith) k) n;
+        } in
+        passed_comes {len = 1 + fetch_words f t} (then_do (gives (Access Read) (v ∷ []) w) (sets (t ∷ []) cells)) pw passed m (λ m1.
         unless_then_comes (address_fault v) w (ask w.replies v w (λ x u. Goes (x ∷ []) u)) (sets (t ∷ []) cells) (λ fine.
-        fits (omega arith) (λ s c z. Reach-to (i + (pw + (1 + (place_words f t + 0)))) e z)
-        (asked t (i + pw) v w.replies cells w b.after ram refl h.1 b.passed.0.0 b.passed.0.1 fine m1 behind))))
+        fits (omega arith) (λ s c z. Reach-to (i + (pw + (1 + fetch_words f t))) e z)
+        (asked t (i + pw) (value_register 10 a) v w.replies cells w b.after ram refl h.1 b.is b.word fine m1 behind))))
 
     write_done : (a x : Place) → PlainDone (Access Write) (a ∷ x ∷ []) []
     write_done a x i cells w registers ram h here few m =
-        let pw = places_words f (a ∷ x ∷ []) in
-        let front = gets_code f 10 (a ∷ x ∷ []) in
-        let rest = access_instr Write ∷ puts_code f [] 10 in
-        let behind = HasAt-behind code i (i + pw) pw front rest here (gets_length f 10 (a ∷ x ∷ [])) refl in
+        let wa = fetch_words f a in
+        let wx = fetch_words f x in
+        let k = i + (wa + wx) in
+        let front = fetch_code f 10 a in
+        let second = fetch_code f 11 x in
+        let last = store_instr Four (value_register 10 a) (value_register 11 x) ∷ [] in
+        let rest = HasAt-behind code i (i + wa) wa front (second ++ last) here (fetch_length f 10 a) refl in
+        let behind = HasAt-behind code (i + wa) k wx second last rest (fetch_length f 11 x) (omega arith) in
         two_values_comes (or_unset (cells a)) (or_unset (cells x)) w (λ vs. then_do (gives (Access Write) vs w) (sets [] cells)) (λ v y is was.
-        let values_is : values (itself 0) (a ∷ x ∷ []) cells ≡ Ok (v ∷ y ∷ []) = both (or_unset (cells a)) (or_unset (cells x)) v y is was in
-        let b = gets_pass code small sp f (omega (arith, low)) fit high (a ∷ x ∷ []) 10 i (v ∷ y ∷ []) cells w registers ram w.replies w.trace (h.0, (h.1, tt)) values_is (omega arith) (omega arith) m (HasAt-front code i front rest here) in
+        let b1 = fetch_finds code small sp f (omega (arith, low)) fit high a 10 i v cells w registers ram w.replies w.trace (omega arith, omega arith) h.0 is m (HasAt-front code i front (second ++ last) here) in
+        let q = Quiet-changed 10 registers b1.after (omega arith) (omega arith) b1.others in
+        let b2 = fetch_finds code small sp f (omega (arith, low)) fit high x 11 (i + wa) y cells w b1.after ram w.replies w.trace (omega arith, omega arith) h.1 was (Matches-quiet q m) (HasAt-front code (i + wa) second last rest) in
+        let passed : Passes code i (i + (wa + wx)) registers ram w.replies w.trace 10 [] = record {
+          after = b2.after;
+          steps = b1.steps + b2.steps;
+          count = omega (arith, b1.count, b2.count);
+          goes = let z : i + wa + wx ≡ i + (wa + wx) = omega arith in
+              subst (λ n. Moves (advance code) (b1.steps + b2.steps) (at i registers ram w.replies w.trace) (at n b2.after ram w.replies w.trace)) z (Moves-then b1.goes b2.goes);
+          passed = tt;
+          others = λ r n o. b2.others r (outside r 11 (omega arith) (omega arith) o) n ∙ b1.others r (outside r 10 (omega arith) (omega arith) o) n;
+        } in
+        let apart = first_apart a h.0 in
+        let address = b2.others (value_register 10 a) apart.0 apart.1 ∙ b1.is in
         let u = record w { trace = w.trace ++ St v y ∷ [] } in
-        passed_comes {len = 1 + 0} (then_do (gives (Access Write) (v ∷ y ∷ []) w) (sets [] cells)) pw b m (λ m1.
+        passed_comes {len = 1} (then_do (gives (Access Write) (v ∷ y ∷ []) w) (sets [] cells)) (wa + wx) passed m (λ m1.
         unless_then_comes (address_fault v) w (Goes [] u) (sets [] cells) (λ fine.
-        let k = i + pw in
-        let step = step_tells code small k v y b.after ram w.replies w.trace (access_instr Write) behind.0 refl
-        (ap (λ n. effects.Stores n (b.after 11)) (plus_zero (b.after 10) v b.passed.0.0 b.passed.0.1) ∙ ap (λ n. effects.Stores v n) b.passed.1.0.0) (device_fine v fine) in
-        let e : k + 1 ≡ i + (pw + (1 + 0)) = omega arith in
+        let step = step_tells code small k v y b2.after ram w.replies w.trace (store_instr Four (value_register 10 a) (value_register 11 x)) behind.0 refl
+        (ap (λ n. effects.Stores n (b2.after (value_register 11 x))) (plus_zero (b2.after (value_register 10 a)) v address b1.word) ∙ ap (λ n. effects.Stores v n) b2.is) (device_fine v fine) in
+        let e : k + 1 ≡ i + (wa + wx + 1) = omega arith in
         leading {la = 0} (Moves-one step) (omega arith) (arrived (cells, u) (record {
-          after = b.after;
+          after = b2.after;
           left = ram;
-          is = ap (λ n. at n b.after ram w.replies (w.trace ++ St v y ∷ [])) e;
+          is = ap (λ n. at n b2.after ram w.replies (w.trace ++ St v y ∷ [])) e;
           matches = record { none = m1.none; base = m1.base; stack = m1.stack; held = m1.held; slots = m1.slots; holds = m1.holds; replies = m1.replies };
-          leaves = Left-same w.memory b.after ram;
+          leaves = Left-same w.memory b2.after ram;
         })))))
 
     -- each plain command

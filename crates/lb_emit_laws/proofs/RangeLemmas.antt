@@ -4,7 +4,7 @@ use Rattle.std.proofs.lemmas.Bool.{cases_lt, ltb-true, eqb-true}
 use Rattle.std.proofs.lemmas.Int.{ints, of_z-to_z}
 use Rattle.std.proofs.Math.Facts.{to_z-neg}
 use Rattle.std.specs.Int.{w32}
-use Rattle.std.specs.Prelude.{slice_get}
+use Rattle.std.specs.Prelude.{◌==◌, slice_get}
 use Rattle.lb_syntax.specs.declared.tree.Op.{Op}
 use Rattle.lb_syntax.specs.declared.tree.Op.TheVariants.{Add, Sub, Mul, Mulhuu, Divu, Remu, And, Or, Xor, Sru, Slu, Srs, Lts, Ltu, Eq}
 use Rattle.lb_syntax.specs.declared.tree.Width.{Width}
@@ -18,9 +18,9 @@ use Rattle.lb_flat.specs.declared.places.Place.{Place}
 use Rattle.lb_flat.specs.declared.places.Place.TheVariants.{Register, Slot}
 use Rattle.lb_flat.specs.Code.{Operation, Constant, Copy, Compute, Load, Store, Call, Access}
 use Rattle.lb_flat.specs.Code.{Code, Plain, Reserve, Branch, Loop, Nothing, Sequence, sites, Routine}
-use Rattle.lb_emit_laws.specs.Instructions.{immediate, minus, upper_part, lower_part, between, jump, skip_unless_zero, is_short, is_upper, literal_by, copy_code, address_code, is_reached, get_by, put_by, down_by, down_code, up_by, up_code, saves_code, loads_code, op_code, load_instr, store_instr, access_instr}
+use Rattle.lb_emit_laws.specs.Instructions.{immediate, minus, upper_part, lower_part, between, jump, skip_unless_zero, is_short, is_upper, literal_by, copy_code, address_code, is_reached, get_by, put_by, down_by, down_code, up_by, up_code, saves_code, loads_code, op_code, load_instr, store_instr}
 use Rattle.lb_emit_laws.specs.Frames.{Frame, slot_offset, frame_of, offsets_of}
-use Rattle.lb_emit_laws.specs.Code.{places_words, get_place, put_place, gets_code, puts_code, plain_words, plain_code, code_words, command_code, body_place, routine_code, routine_words}
+use Rattle.lb_emit_laws.specs.Code.{places_words, get_place, put_place, gets_code, puts_code, value_register, fetch_code, keep_code, plain_words, plain_code, over_by, over_code, over_words_by, over_words, code_words, command_code, body_place, routine_code, routine_words}
 use Rattle.lb_emit_laws.proofs.Ordered.{IsSource, AreSources, IsPlaceTarget, ArePlaceTargets, IsPlainInOrder, InOrder, AreSaved, FitsFrame}
 use Rattle.lb_emit_laws.proofs.Places.{AreInRange}
 
@@ -159,6 +159,10 @@ loads_in_range j (r ∷ rs) h few = ((h.0.below, omega arith, low_signed (4 * j)
 
 -- ---- commands
 
+over_by_in_range : (none : Bool) (i n : ℕ) → i ≤ 32768 → i + over_words_by none + n ≤ 32768 → AreInRange (over_by none i n)
+over_by_in_range true i n h k = tt
+over_by_in_range false i n h k = (jump_in_range 0 i (i + 1 + n) (omega arith) h k, tt)
+
 module _ (f : Frame) (fit : 4 * (length f.saved + f.slots) ≤ f.size) (bounded : f.size ≤ 65536) where
   slot_word : (k : ℕ) → k < f.slots → slot_offset f k < 2 ^ 32
   slot_word k lt = omega (arith, fit, bounded, lt)
@@ -179,6 +183,22 @@ module _ (f : Frame) (fit : 4 * (length f.saved + f.slots) ≤ f.size) (bounded 
   puts_in_range [] i h s = tt
   puts_in_range (q ∷ qs) i h s = append_in_range (put_place f q i) (puts_code f qs (i + 1)) (put_place_in_range q i (omega (arith, h)) s.0) (puts_in_range qs (i + 1) (omega (arith, h)) s.1)
 
+  fetch_in_range : (i : ℕ) (q : Place) → i < 32 → IsSource f q → AreInRange (fetch_code f i q)
+  fetch_in_range i (Register r) h s = tt
+  fetch_in_range i (Slot k) h s = get_by_in_range (is_reached (slot_offset f k)) i (slot_offset f k) refl h (slot_word k s)
+
+  keep_in_range : (q : Place) (i : ℕ) → i < 32 → IsPlaceTarget f q → AreInRange (keep_code f q i)
+  keep_in_range (Register r) i h t = tt
+  keep_in_range (Slot k) i h t = put_by_in_range (is_reached (slot_offset f k)) (slot_offset f k) i refl h (slot_word k t)
+
+  source_register : (i : ℕ) (q : Place) → i < 32 → IsSource f q → value_register i q < 32
+  source_register i (Register r) h s = s.below
+  source_register i (Slot k) h s = h
+
+  target_register : (i : ℕ) (q : Place) → i < 32 → IsPlaceTarget f q → value_register i q < 32
+  target_register i (Register r) h t = t.below
+  target_register i (Slot k) h t = h
+
   module _ (fs : List (Routine Place)) (A : ℕ → Type 0) (entry : ℕ → ℕ) (near : (g : ℕ) (h : Routine Place) → slice_get fs g ≡ Some h → entry g ≤ 32768) where
     plain_in_range : (i : ℕ) (o : Operation) (xs ys : List Place) → IsPlainInOrder fs A f o xs ys → i + plain_words f o xs ys ≤ 32768 → AreInRange (plain_code f entry i o xs ys)
     plain_in_range i (Constant v) [] (Register y ∷ []) h low = literal_by_in_range (is_short v) (is_upper v) y v refl refl h.0.below h.1
@@ -192,10 +212,13 @@ module _ (f : Frame) (fit : 4 * (length f.saved + f.slots) ≤ f.size) (bounded 
         append_in_range (gets_code f 10 xs) (jump 1 (i + places_words f xs) (entry g) ∷ puts_code f ys 10) (gets_in_range 10 xs (omega (arith, h.2)) h.0)
         (jump_in_range 1 (i + places_words f xs) (entry g) (omega arith) (omega (arith, low)) (near g h.5.callee h.5.is), puts_in_range ys 10 (omega (arith, h.3)) h.1)
     plain_in_range i (Access Read) (a ∷ []) (y ∷ []) h low =
-        append_in_range (gets_code f 10 (a ∷ [])) (access_instr Read ∷ puts_code f (y ∷ []) 10) (gets_in_range 10 (a ∷ []) (omega arith) (h.0, tt))
-        ((omega arith, omega arith, zero_signed), puts_in_range (y ∷ []) 10 (omega arith) (h.1, tt))
+        append_in_range (fetch_code f 10 a) (load_instr Four (value_register 10 y) (value_register 10 a) ∷ keep_code f y 10) (fetch_in_range 10 a (omega arith) h.0)
+        (load_in_range Four (value_register 10 y) (value_register 10 a) (target_register 10 y (omega arith) h.1) (source_register 10 a (omega arith) h.0), keep_in_range y 10 (omega arith) h.1)
     plain_in_range i (Access Write) (a ∷ x ∷ []) [] h low =
-        append_in_range (gets_code f 10 (a ∷ x ∷ [])) (access_instr Write ∷ []) (gets_in_range 10 (a ∷ x ∷ []) (omega arith) (h.0, (h.1, tt))) ((omega arith, omega arith, zero_signed), tt)
+        let last : List Instr = store_instr Four (value_register 10 a) (value_register 11 x) ∷ [] in
+        append_in_range (fetch_code f 10 a) (fetch_code f 11 x ++ last) (fetch_in_range 10 a (omega arith) h.0)
+        (append_in_range (fetch_code f 11 x) last (fetch_in_range 11 x (omega arith) h.1)
+        (store_in_range Four (value_register 10 a) (value_register 11 x) (source_register 10 a (omega arith) h.0) (source_register 11 x (omega arith) h.1), tt))
     plain_in_range i o xs ys h low = absurd h
 
     command_in_range : (os : List ℕ) (i : ℕ) (c : Code Place) → InOrder fs A f os c → i + code_words f c ≤ 32768 → AreInRange (command_code f entry os i c)
@@ -206,13 +229,15 @@ module _ (f : Frame) (fit : 4 * (length f.saved + f.slots) ≤ f.size) (bounded 
     command_in_range (o ∷ os) i (Reserve n (Slot k) b) h low = absurd h.0
     command_in_range os i (Branch (Register r) b d) h low =
         let os2 = drop (length (sites b)) os in
-        let j = i + 2 + code_words f b in (
+        let j = i + 2 + code_words f b in
+        let wd = code_words f d in
+        let k = j + over_words wd in (
           skip_in_range r h.0.below,
           (
-            jump_in_range 0 (i + 1) (j + 1) (omega arith) (omega (arith, low)) (omega (arith, low)),
-            append_in_range (command_code f entry os (i + 2) b) (jump 0 j (j + 1 + code_words f d) ∷ command_code f entry os2 (j + 1) d)
+            jump_in_range 0 (i + 1) k (omega arith) (omega (arith, low)) (omega (arith, low)),
+            append_in_range (command_code f entry os (i + 2) b) (over_code j wd ++ command_code f entry os2 k d)
                 (command_in_range os (i + 2) b h.1 (omega (arith, low)))
-                (jump_in_range 0 j (j + 1 + code_words f d) (omega arith) (omega (arith, low)) (omega (arith, low)), command_in_range os2 (j + 1) d h.2 (omega (arith, low))),
+                (append_in_range (over_code j wd) (command_code f entry os2 k d) (over_by_in_range (wd == 0) j wd (omega (arith, low)) (omega (arith, low))) (command_in_range os2 k d h.2 (omega (arith, low)))),
           ),
         )
     command_in_range os i (Branch (Slot k) b d) h low = absurd h.0

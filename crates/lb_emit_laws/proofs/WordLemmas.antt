@@ -12,8 +12,9 @@ use Rattle.lb_flat.specs.Needs.{frame_need, is_near, slot_words, placed_plain_wo
 use Rattle.lb_flat.specs.Needs as need
 use Rattle.lb_emit_laws.specs.Instructions.{is_short, is_upper, literal_words_by, is_reached, reach_words}
 use Rattle.lb_emit_laws.specs.Frames.{slot_offset, frame_of}
-use Rattle.lb_emit_laws.specs.Code.{place_words, places_words, plain_words, code_words, routine_words}
+use Rattle.lb_emit_laws.specs.Code.{place_words, places_words, fetch_words, plain_words, code_words, routine_words}
 use Rattle.lb_emit_laws.proofs.Ordered.{IsSource, AreSources, IsPlaceTarget, ArePlaceTargets, IsPlainInOrder, InOrder, FitsFrame}
+use Rattle.lb_emit_laws.proofs.CodeLengths.{over_at_most}
 use Rattle.lb_emit_laws.proofs.SavedLemmas.{saved_few}
 
 slot_at_most : (b : Bool) → slot_words b ≤ 3
@@ -61,6 +62,10 @@ module _ (fs : List (Routine Place)) (A : ℕ → Type 0) (h : Routine Place) wh
   targets_within [] good = omega arith
   targets_within (q ∷ qs) good = omega (arith, need_cons (is_near h) q qs, target_within q good.0, targets_within qs good.1)
 
+  fetch_within : (q : Place) → fetch_words (frame_of h) q ≤ place_words (frame_of h) q
+  fetch_within (Register r) = omega arith
+  fetch_within (Slot k) = omega arith
+
   plain_within : (o : Operation) (xs ys : List Place) → IsPlainInOrder fs A (frame_of h) o xs ys → plain_words (frame_of h) o xs ys ≤ placed_plain_words (is_near h) o xs ys
   plain_within (Constant v) [] (Register y ∷ []) good = literal_by_at_most (is_short v) (is_upper v)
   plain_within Copy (Register x ∷ []) (Register y ∷ []) good = omega arith
@@ -70,14 +75,14 @@ module _ (fs : List (Routine Place)) (A : ℕ → Type 0) (h : Routine Place) wh
   plain_within (Load w) (Register a ∷ []) (Register y ∷ []) good = omega arith
   plain_within (Store w) (Register a ∷ Register x ∷ []) [] good = omega arith
   plain_within (Call g) xs ys good = omega (arith, sources_within xs good.0, targets_within ys good.1)
-  plain_within (Access Read) (a ∷ []) (y ∷ []) good = omega (arith, sources_within (a ∷ []) (good.0, tt), targets_within (y ∷ []) (good.1, tt))
-  plain_within (Access Write) (a ∷ x ∷ []) [] good = omega (arith, sources_within (a ∷ x ∷ []) (good.0, (good.1, tt)))
+  plain_within (Access Read) (a ∷ []) (y ∷ []) good = omega (arith, fetch_within a, fetch_within y, sources_within (a ∷ []) (good.0, tt), targets_within (y ∷ []) (good.1, tt))
+  plain_within (Access Write) (a ∷ x ∷ []) [] good = omega (arith, fetch_within a, fetch_within x, sources_within (a ∷ x ∷ []) (good.0, (good.1, tt)))
   plain_within o xs ys good = absurd good
 
   code_within : (os : List ℕ) (c : Code Place) → InOrder fs A (frame_of h) os c → code_words (frame_of h) c ≤ placed_words (is_near h) c
   code_within os (Plain o xs ys) good = plain_within o xs ys good
   code_within os (Reserve n y b) good = omega (arith, code_within _ b good.2)
-  code_within os (Branch x b d) good = omega (arith, code_within _ b good.1, code_within _ d good.2)
+  code_within os (Branch x b d) good = omega (arith, code_within _ b good.1, code_within _ d good.2, over_at_most (code_words (frame_of h) d))
   code_within os (Loop b x d) good = omega (arith, code_within _ b good.1, code_within _ d good.2)
   code_within os Nothing good = omega arith
   code_within os (Sequence c d) good = omega (arith, code_within _ c good.0, code_within _ d good.1)

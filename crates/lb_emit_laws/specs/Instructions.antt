@@ -5,8 +5,6 @@ use Rattle.lb_syntax.specs.declared.tree.Op.{Op}
 use Rattle.lb_syntax.specs.declared.tree.Op.TheVariants.{Add, Sub, Mul, Mulhuu, Divu, Remu, And, Or, Xor, Sru, Slu, Srs, Lts, Ltu, Eq}
 use Rattle.lb_syntax.specs.declared.tree.Width.{Width}
 use Rattle.lb_syntax.specs.declared.tree.Width.TheVariants.{One, Two, Four}
-use Rattle.lb_syntax.specs.declared.tree.Action.{Action}
-use Rattle.lb_syntax.specs.declared.tree.Action.TheVariants.{Read, Write}
 use Rattle.lb_rv.specs.declared.instr.Instr.{Instr}
 use Rattle.lb_rv.specs.declared.instr.Instr.TheVariants as instr
 use Rattle.lb_flat.specs.Needs.{slot_words}
@@ -161,8 +159,3 @@ abbrev pub store_instr : Width → ℕ → ℕ → Instr
 store_instr One rs1 rs2 = instr.Sb rs1 rs2 (immediate 0)
 store_instr Two rs1 rs2 = instr.Sh rs1 rs2 (immediate 0)
 store_instr Four rs1 rs2 = instr.Sw rs1 rs2 (immediate 0)
-
--- an access of a device: the address is in register 10, where a value that is read comes, and a value to be written in 11
-abbrev pub access_instr : Action → Instr
-access_instr Read = instr.Lw 10 10 (immediate 0)
-access_instr Write = instr.Sw 10 11 (immediate 0)
