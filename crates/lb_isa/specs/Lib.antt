@@ -1,3 +1,4 @@
+pub mod InternalExecution
 pub mod Laws
 pub mod Moves
 pub mod Runs

@@ -2,18 +2,23 @@
 ghost use Rattle.std.specs.Prelude.{◌≡◌, ◌<◌, map, slice_index, IfOk, None, false};
 ghost use Rattle.std.specs.Option.{option_map};
 ghost use Rattle.lb_rv.specs.Decoding.{instruction_of};
+ghost use Rattle.lb_rv.specs.Effects.{destination, next_address, plus_immediate};
 ghost use Rattle.lb_outcome.specs.Cells.{cells};
 ghost use Rattle.lb_outcome.specs.Fetching.{word_at};
+ghost use Rattle.lb_outcome.specs.MemoryMap.{is_in_ram};
 ghost use Rattle.lb_outcome.specs.declared.types.Outcome.TheVariants.{Load, Plain};
 ghost use Rattle.lb_isa.specs.declared.processor.Stepped.TheVariants.{Committed};
 ghost use Rattle.lb_isa.specs.State.{processor_of};
-ghost use Rattle.lb_isa.specs.Moves.{IsRefused, after, answer, goes_on, next_answer, next_processor, upcoming};
+ghost use Rattle.lb_isa.specs.Moves.{IsRefused, after, answer, goes_on, next_answer, next_processor};
 ghost use Rattle.lb_isa.specs.Runs.{IsBootable, booted};
 ghost use Rattle.lb_isa.specs.Steps.{instruction_outcome};
+ghost use Rattle.lb_isa.specs.InternalExecution.{after_branch, after_doing, after_setting, answer_to};
 
-use lb_outcome::{Executed, Outcome, Ram, Registers, at_address, halt, outcome};
+use lb_memory::RAM_SIZE;
+use lb_outcome::{Executed, Outcome, Ram, Registers, at_address, outcome};
 use lb_rv::{Cause, Instr, decode, reads, writes};
 use lb_trace::Event;
+use lb_word::{add, and_, divu, eq, lts, ltu, mul, mulhuu, or_, remu, slu, sru, sub, xor};
 use std::alloc::{AllocError, Global};
 use std::marker::Model;
 
@@ -80,8 +85,15 @@ impl Isa {
         // After WantsReply or Halted nothing has changed.
         ensures refused { IsRefused result → self.new ≡ self.old }
     {
-        let Executed { outcome, next } = self.upcoming();
-        self.commit(outcome, next, reply)
+        match self.fetched() {
+            None => Stepped::Halted {
+                cause: Cause::BadPc,
+            },
+            Some(None) => Stepped::Halted {
+                cause: Cause::UnknownWord,
+            },
+            Some(Some(i)) => self.execute(i, reply),
+        }
     }
 
     /// What a register holds; `n` is below 32.
@@ -99,22 +111,215 @@ impl Isa {
         self.pc
     }
 
-    // The outcome of the next instruction.
-    fn upcoming(&self) -> Executed
-        ensures { result ≡ upcoming self.now.code (processor_of self.now) }
-    {
-        match self.fetched() {
-            None => halt(Cause::BadPc, self.pc),
-            Some(None) => halt(Cause::UnknownWord, self.pc),
-            Some(Some(i)) => self.outcome_of(i),
-        }
-    }
-
     // The instruction at the pc: none where no word stands there, and within where the word has no instruction.
     fn fetched(&self) -> Option<Option<Instr>>
         ensures { result ≡ option_map instruction_of (word_at self.now.code self.now.pc) }
     {
         at_address(&self.instructions, self.pc)
+    }
+
+    // Does an instruction: the kinds that compiled code mostly consists of at once, since that is faster, and every other
+    // one by its outcome.
+    fn execute(&mut self, i: Instr, reply: Option<u32>) -> Stepped
+        ensures answer { result ≡ answer_to i reply self.old }
+        ensures processor { processor_of self.new ≡ after_doing i reply self.old }
+        ensures code { self.new.code ≡ self.old.code }
+        ensures refused { IsRefused result → self.new ≡ self.old }
+    {
+        match i {
+            Instr::Lui { rd, imm } => self.give(rd, imm),
+            Instr::Addi { rd, rs1, imm } => {
+                let value = plus(self.registers.get(rs1), imm);
+                self.give(rd, value)
+            }
+            Instr::Sltiu { rd, rs1, imm } => {
+                let value = ltu(self.registers.get(rs1), imm.cast_unsigned());
+                self.give(rd, value)
+            }
+            Instr::Jal { rd, imm } => {
+                let next = plus(self.pc, imm);
+                self.jump(rd, next)
+            }
+            Instr::Jalr { rd, rs1, imm } => {
+                let next = plus(self.registers.get(rs1), imm) / 2 * 2;
+                self.jump(rd, next)
+            }
+            Instr::Bne { rs1, rs2, imm } => {
+                let (a, b) = self.both(rs1, rs2);
+                self.branch(eq(a, b) == 0, imm)
+            }
+            Instr::Lw { .. } => self.load_word(i, reply),
+            Instr::Sw { .. } => self.store_word(i, reply),
+            _ => self.calculate(i, reply),
+        }
+    }
+
+    // The same of the kinds that calculate with two registers.
+    fn calculate(&mut self, i: Instr, reply: Option<u32>) -> Stepped
+        ensures answer { result ≡ answer_to i reply self.old }
+        ensures processor { processor_of self.new ≡ after_doing i reply self.old }
+        ensures code { self.new.code ≡ self.old.code }
+        ensures refused { IsRefused result → self.new ≡ self.old }
+    {
+        match i {
+            Instr::Add { rd, rs1, rs2 } => {
+                let (a, b) = self.both(rs1, rs2);
+                self.give(rd, add(a, b))
+            }
+            Instr::Sub { rd, rs1, rs2 } => {
+                let (a, b) = self.both(rs1, rs2);
+                self.give(rd, sub(a, b))
+            }
+            Instr::Mul { rd, rs1, rs2 } => {
+                let (a, b) = self.both(rs1, rs2);
+                self.give(rd, mul(a, b))
+            }
+            Instr::Mulhu { rd, rs1, rs2 } => {
+                let (a, b) = self.both(rs1, rs2);
+                self.give(rd, mulhuu(a, b))
+            }
+            Instr::Divu { rd, rs1, rs2 } => {
+                let (a, b) = self.both(rs1, rs2);
+                self.give(rd, divu(a, b))
+            }
+            Instr::Remu { rd, rs1, rs2 } => {
+                let (a, b) = self.both(rs1, rs2);
+                self.give(rd, remu(a, b))
+            }
+            _ => self.combine(i, reply),
+        }
+    }
+
+    // The same of the kinds that combine the bits of two registers, or compare them.
+    fn combine(&mut self, i: Instr, reply: Option<u32>) -> Stepped
+        ensures answer { result ≡ answer_to i reply self.old }
+        ensures processor { processor_of self.new ≡ after_doing i reply self.old }
+        ensures code { self.new.code ≡ self.old.code }
+        ensures refused { IsRefused result → self.new ≡ self.old }
+    {
+        match i {
+            Instr::And { rd, rs1, rs2 } => {
+                let (a, b) = self.both(rs1, rs2);
+                self.give(rd, and_(a, b))
+            }
+            Instr::Or { rd, rs1, rs2 } => {
+                let (a, b) = self.both(rs1, rs2);
+                self.give(rd, or_(a, b))
+            }
+            Instr::Xor { rd, rs1, rs2 } => {
+                let (a, b) = self.both(rs1, rs2);
+                self.give(rd, xor(a, b))
+            }
+            Instr::Sll { rd, rs1, rs2 } => {
+                let (a, b) = self.both(rs1, rs2);
+                self.give(rd, slu(a, b))
+            }
+            Instr::Srl { rd, rs1, rs2 } => {
+                let (a, b) = self.both(rs1, rs2);
+                self.give(rd, sru(a, b))
+            }
+            Instr::Sltu { rd, rs1, rs2 } => {
+                let (a, b) = self.both(rs1, rs2);
+                self.give(rd, ltu(a, b))
+            }
+            Instr::Slt { rd, rs1, rs2 } => {
+                let (a, b) = self.both(rs1, rs2);
+                self.give(rd, lts(a, b))
+            }
+            _ => self.by_outcome(i, reply),
+        }
+    }
+
+    // The same of a load of a word from RAM.
+    fn load_word(&mut self, i: Instr, reply: Option<u32>) -> Stepped
+        ensures answer { result ≡ answer_to i reply self.old }
+        ensures processor { processor_of self.new ≡ after_doing i reply self.old }
+        ensures code { self.new.code ≡ self.old.code }
+        ensures refused { IsRefused result → self.new ≡ self.old }
+    {
+        let Instr::Lw { rd, rs1, imm } = i else {
+            return self.by_outcome(i, reply);
+        };
+        let address = plus(self.registers.get(rs1), imm);
+        if !is_word_in_ram(address) {
+            return self.by_outcome(i, reply);
+        }
+        let next = add(self.pc, 4);
+        self.load(rd, i, address, next)
+    }
+
+    // The same of a store of a word in RAM behind the code.
+    fn store_word(&mut self, i: Instr, reply: Option<u32>) -> Stepped
+        ensures answer { result ≡ answer_to i reply self.old }
+        ensures processor { processor_of self.new ≡ after_doing i reply self.old }
+        ensures code { self.new.code ≡ self.old.code }
+        ensures refused { IsRefused result → self.new ≡ self.old }
+    {
+        let Instr::Sw { rs1, rs2, imm } = i else {
+            return self.by_outcome(i, reply);
+        };
+        let (a, value) = self.both(rs1, rs2);
+        let address = plus(a, imm);
+        if !is_word_in_ram(address) || address < 4 * self.code.len() as u32 {
+            return self.by_outcome(i, reply);
+        }
+        self.ram.store(i, address, value);
+        let next = add(self.pc, 4);
+        self.go_to(next, None)
+    }
+
+    // Does an instruction by its outcome.
+    fn by_outcome(&mut self, i: Instr, reply: Option<u32>) -> Stepped
+        ensures answer { result ≡ answer_to i reply self.old }
+        ensures processor { processor_of self.new ≡ after_doing i reply self.old }
+        ensures code { self.new.code ≡ self.old.code }
+        ensures refused { IsRefused result → self.new ≡ self.old }
+    {
+        let Executed { outcome, next } = self.outcome_of(i);
+        self.commit(outcome, next, reply)
+    }
+
+    // What two registers hold.
+    fn both(&self, rs1: u8, rs2: u8) -> (u32, u32)
+        ensures { result ≡ (cells self.now.registers rs1, cells self.now.registers rs2) }
+    {
+        (self.registers.get(rs1), self.registers.get(rs2))
+    }
+
+    // Sets a register, and goes on behind the instruction.
+    fn give(&mut self, rd: u8, value: u32) -> Stepped
+        ensures answer { result ≡ Committed None }
+        ensures processor { processor_of self.new ≡ after_setting rd value (next_address self.old.pc) self.old }
+        ensures code { self.new.code ≡ self.old.code }
+    {
+        let next = add(self.pc, 4);
+        let value = if rd == 0 { 0 } else { value };
+        self.set(rd, value, next, None)
+    }
+
+    // Sets a register to the address behind the instruction, and goes on at this one.
+    fn jump(&mut self, rd: u8, next: u32) -> Stepped
+        ensures answer { result ≡ Committed None }
+        ensures processor { processor_of self.new ≡ after_setting rd (next_address self.old.pc) next self.old }
+        ensures code { self.new.code ≡ self.old.code }
+    {
+        let behind = add(self.pc, 4);
+        let value = if rd == 0 { 0 } else { behind };
+        self.set(rd, value, next, None)
+    }
+
+    // Goes on where a branch leads to.
+    fn branch(&mut self, is_taken: bool, imm: i32) -> Stepped
+        ensures answer { result ≡ Committed None }
+        ensures processor { processor_of self.new ≡ after_branch is_taken imm self.old }
+        ensures code { self.new.code ≡ self.old.code }
+    {
+        let next = if is_taken {
+            plus(self.pc, imm)
+        } else {
+            add(self.pc, 4)
+        };
+        self.set(0, 0, next, None)
     }
 
     // The outcome of an instruction at the pc.
@@ -146,7 +351,7 @@ impl Isa {
                 address,
                 mmio: false,
                 ..
-            } => self.load(instruction, address, next),
+            } => self.load(writes(&instruction), instruction, address, next),
             Outcome::Load {
                 instruction,
                 address,
@@ -182,14 +387,15 @@ impl Isa {
         }
     }
 
-    // Loads from RAM, and goes on at this address.
-    fn load(&mut self, i: Instr, address: u32, next: u32) -> Stepped
+    // Loads from RAM into the instruction's destination, and goes on at this address.
+    fn load(&mut self, rd: u8, i: Instr, address: u32, next: u32) -> Stepped
+        requires { rd ≡ destination i }
         ensures answer { result ≡ Committed None }
         ensures processor { processor_of self.new ≡ after (Load i address false None) next None (processor_of self.old) }
         ensures code { self.new.code ≡ self.old.code }
     {
         let value = self.ram.load(i, address);
-        self.set(writes(&i), value, next, None)
+        self.set(rd, value, next, None)
     }
 
     // Sets a register, and goes on at this address.
@@ -218,4 +424,18 @@ fn decoded(alloc: Global, code: &[u32]) -> Result<Vec<Option<Instr>>, AllocError
     ensures { IfOk result (λ instructions. instructions.items ≡ map instruction_of code.now) }
 {
     code.iter().map(|word| decode(*word)).collect(alloc)
+}
+
+// A sum with a signed immediate.
+fn plus(a: u32, imm: i32) -> u32
+    ensures { result ≡ plus_immediate a imm }
+{
+    add(a, imm.cast_unsigned())
+}
+
+// Whether a word at this address lies wholly in RAM.
+fn is_word_in_ram(address: u32) -> bool
+    ensures { result ≡ is_in_ram 4 address }
+{
+    address <= RAM_SIZE - 4
 }
