@@ -78,6 +78,7 @@ impl Isa {
     /// Does the next instruction. A load of a device's word takes the reply; any other instruction leaves it. Answers
     /// WantsReply exactly where the next instruction loads a device's word and no reply is handed in, and Halted exactly
     /// where a cause holds before it.
+    #[inline(always)]
     pub fn step(&mut self, reply: Option<u32>) -> Stepped
         ensures answer { result ≡ next_answer self.old.code reply (processor_of self.old) }
         ensures processor { processor_of self.new ≡ next_processor self.old.code reply (processor_of self.old) }
@@ -119,7 +120,9 @@ impl Isa {
     }
 
     // Does an instruction: the kinds that compiled code mostly consists of at once, since that is faster, and every other
-    // one by its outcome.
+    // one by its outcome. The hints on inlining are for speed alone: without them a step of each caller is a call, and its
+    // answer goes through memory.
+    #[inline(always)]
     fn execute(&mut self, i: Instr, reply: Option<u32>) -> Stepped
         ensures answer { result ≡ answer_to i reply self.old }
         ensures processor { processor_of self.new ≡ after_doing i reply self.old }
@@ -155,6 +158,7 @@ impl Isa {
     }
 
     // The same of the kinds that calculate with two registers.
+    #[inline(always)]
     fn calculate(&mut self, i: Instr, reply: Option<u32>) -> Stepped
         ensures answer { result ≡ answer_to i reply self.old }
         ensures processor { processor_of self.new ≡ after_doing i reply self.old }
@@ -191,6 +195,7 @@ impl Isa {
     }
 
     // The same of the kinds that combine the bits of two registers, or compare them.
+    #[inline(always)]
     fn combine(&mut self, i: Instr, reply: Option<u32>) -> Stepped
         ensures answer { result ≡ answer_to i reply self.old }
         ensures processor { processor_of self.new ≡ after_doing i reply self.old }
@@ -231,6 +236,7 @@ impl Isa {
     }
 
     // The same of a load of a word from RAM.
+    #[inline(always)]
     fn load_word(&mut self, i: Instr, reply: Option<u32>) -> Stepped
         ensures answer { result ≡ answer_to i reply self.old }
         ensures processor { processor_of self.new ≡ after_doing i reply self.old }
@@ -249,6 +255,7 @@ impl Isa {
     }
 
     // The same of a store of a word in RAM behind the code.
+    #[inline(always)]
     fn store_word(&mut self, i: Instr, reply: Option<u32>) -> Stepped
         ensures answer { result ≡ answer_to i reply self.old }
         ensures processor { processor_of self.new ≡ after_doing i reply self.old }
@@ -269,6 +276,7 @@ impl Isa {
     }
 
     // Does an instruction by its outcome.
+    #[inline(never)]
     fn by_outcome(&mut self, i: Instr, reply: Option<u32>) -> Stepped
         ensures answer { result ≡ answer_to i reply self.old }
         ensures processor { processor_of self.new ≡ after_doing i reply self.old }
