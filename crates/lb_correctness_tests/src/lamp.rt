@@ -7,7 +7,7 @@ ghost use Rattle.lb_machine.specs.Logs.{most_entries};
 use lb_correctness::supplied_image;
 use lb_image::Image;
 use lb_machine::Machine;
-use lb_trace::{Frame, Kind};
+use lb_trace::{Event, Frame, Kind};
 use std::alloc::{AllocError, AllocFailed, Global};
 
 // All kinds but Arrive.
@@ -68,4 +68,29 @@ fn fire_round(machine: &mut Machine) {
     for kind in KINDS {
         let _ = machine.fire(0, kind);
     }
+}
+
+/// The trace with bit 23 of the value of the first store to the lamp's pins flipped, and the place of
+/// that store, from 0; without such a store the trace as it is, and its length.
+pub fn with_the_other_value(
+    alloc: Global,
+    trace: &[Event],
+) -> Result<(Vec<Event>, usize), AllocError> {
+    let mut changed = Vec::from_slice(alloc, trace)?;
+    let place = trace
+        .iter()
+        .position(|event| {
+            matches!(
+                event,
+                Event::St {
+                    addr: 0x1001_200C,
+                    ..
+                }
+            )
+        })
+        .unwrap_or(trace.len());
+    if let Some(Event::St { value, .. }) = changed.get_mut(place) {
+        *value ^= 0x0080_0000;
+    }
+    Ok((changed, place))
 }

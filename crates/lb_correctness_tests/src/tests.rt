@@ -1,5 +1,5 @@
 // The supplied image, and what a machine does with it.
-use crate::lamp::{boot, command, fire_rounds, image};
+use crate::lamp::{boot, command, fire_rounds, image, with_the_other_value};
 use lb_bulb::program;
 use lb_check::check;
 use lb_grammar::{Verdict, judge};
@@ -29,5 +29,8 @@ fn a_machine_with_it_serves_the_lamp(rt: HostRuntime) -> Result<(), Fail> {
     assert!(rt; machine.board().lamp());
     assert_eq!(rt; machine.board().arrived(), 1);
     assert_eq!(rt; machine.core().halted(), None);
+    let (changed, at) = with_the_other_value(alloc, machine.trace())?;
+    assert!(rt; at < changed.len());
+    assert_eq!(rt; judge(&changed), Verdict::Leaves { at: at as u64 });
     Ok(())
 }
