@@ -65,15 +65,15 @@ fn each_race_is_replayed(rt: HostRuntime) -> Result<(), Fail> {
     for workers in 1..9u8 {
         let size = Size {
             workers,
-            events: 20_000,
+            events: if workers == 8 { 1_000_000 } else { 20_000 },
         };
         let machine = raced(&rt, alloc, &OpenGate, size, 3)?;
         assert!(rt; is_whole(alloc, &machine, size)?, "{workers} workers");
     }
-    for seed in 0..100u32 {
+    for seed in 0..1000u32 {
         let size = Size {
             workers: (seed % 8) as u8 + 1,
-            events: seed,
+            events: seed % 100,
         };
         let machine = raced(&rt, alloc, &OpenGate, size, seed)?;
         assert!(rt; is_whole(alloc, &machine, size)?, "seed {seed}");
