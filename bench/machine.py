@@ -11,11 +11,10 @@ workers, and the time of the mode `lamp` beside that of `run` of the supplied pr
 lamp, and don't. It needs the mode `compile` and ends with 1 where there is a difference.
 """
 import os
-import subprocess
 import sys
 import tempfile
 
-from measure import HERE, compiled, has_mode, in_turn, program, ratio, supplied, yardstick
+from measure import compiled, has_mode, in_turn, own_tests, printed, program, ratio, supplied, yardstick
 from runs import CASES
 
 EVENTS = 4_000_000
@@ -57,14 +56,6 @@ class Case:
 def fields(report):
     """The first lines of a report, by their first words."""
     return dict(line.split(" ", 1) for line in report.decode().splitlines() if " " in line)
-
-
-def printed(command, text):
-    words, status = command
-    ended = subprocess.run(words, input=text, stdout=subprocess.PIPE, check=False)
-    if ended.returncode != status:
-        raise SystemExit(f"{' '.join(words)}: status {ended.returncode}, not {status}")
-    return ended.stdout
 
 
 def measure_case(name, case, plain):
@@ -131,9 +122,7 @@ def test(folder):
     plain = yardstick("machine", folder)
     if not plain:
         return 0
-    tests = os.path.join(folder, "tests")
-    subprocess.run(["rustc", "--test", "--edition", "2021", "-o", tests, os.path.join(HERE, "machine.rs")], check=True)
-    status = subprocess.run([tests, "--quiet"], check=False).returncode
+    status = 0 if own_tests("machine", folder) else 1
     for frames, events, expected in ROWS:
         case = Case(supplied(), frames, folder)
         report = printed(case.theirs(plain, "trace", events=events), b"")
@@ -143,7 +132,7 @@ def test(folder):
             status = 1
             print(f"{len(frames)} frames, {events} events: {found}, end {told['end']}, not {expected}")
     print("the plain machine is as expected" if status == 0 else "the plain machine differs")
-    return 1 if status else 0
+    return status
 
 
 def main():

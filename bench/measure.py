@@ -14,9 +14,9 @@ import time
 HERE = os.path.dirname(os.path.abspath(__file__))
 ROUNDS = 3
 
-# (the text of the supplied program, for the benches)
+# (the text of the supplied program and the texts of another script, for the benches)
 sys.path.append(os.path.join(HERE, "..", "scripts"))
-from shared import supplied
+from shared import script, supplied
 
 
 class Measured:
@@ -70,6 +70,15 @@ def in_turn(text, *commands):
     return found
 
 
+def printed(command, text):
+    """What a command prints on this standard input: a list of words and the status that it has to end with."""
+    words, status = command
+    ended = subprocess.run(words, input=text, stdout=subprocess.PIPE, check=False)
+    if ended.returncode != status:
+        raise SystemExit(f"{' '.join(words)}: status {ended.returncode}, not {status}")
+    return ended.stdout
+
+
 def program():
     """The program that is measured: the first word of the command line, or else the built one."""
     return sys.argv[1] if len(sys.argv) > 1 else os.path.join(HERE, "..", "crates", "bulb", "out", "bulb")
@@ -98,6 +107,13 @@ def yardstick(name, folder):
     built = os.path.join(folder, name)
     subprocess.run(["rustc", "-O", "--edition", "2021", "-o", built, os.path.join(HERE, f"{name}.rs")], check=True)
     return built
+
+
+def own_tests(name, folder):
+    """Builds the tests that stand in bench/NAME.rs and runs them; answers whether they pass."""
+    tests = os.path.join(folder, "tests")
+    subprocess.run(["rustc", "--test", "--edition", "2021", "-o", tests, os.path.join(HERE, f"{name}.rs")], check=True)
+    return subprocess.run([tests, "--quiet"], check=False).returncode == 0
 
 
 def ratio(measured, plain):

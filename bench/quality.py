@@ -17,8 +17,8 @@ import subprocess
 import sys
 import tempfile
 
-from machine import ON, Case, fields, printed
-from measure import HERE, compiled, program, supplied, yardstick
+from machine import ON, Case, fields
+from measure import HERE, compiled, printed, program, supplied, yardstick
 
 LEVELS = ("-O0", "-O1")
 EVENTS = 2_000_000
