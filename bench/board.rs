@@ -1,5 +1,5 @@
 //! A plain board for machine.rs: GPIO and SPI registers, and an Ethernet chip behind SPI that takes the frames of a script.
-use crate::pipeline::Kind;
+use super::pipeline::Kind;
 use std::collections::VecDeque;
 
 const SPI_BYTES: usize = 8;

@@ -15,29 +15,29 @@ const LAMP: u32 = 0x1001_200C;
 /// Where a run to the lamp's switch is given up.
 const MOST_STEPS: u32 = 100_000_000;
 
-struct Event {
+pub struct Event {
     is_load: bool,
     address: u32,
     value: u32,
 }
 
-enum Stepped {
+pub enum Stepped {
     Committed,
     WantsReply,
     Halted(&'static str),
 }
 
-struct Machine {
+pub struct Machine {
     registers: [u32; 32],
     pc: u32,
     code_bytes: u32,
     ram: Vec<u8>,
     replies: std::vec::IntoIter<u32>,
-    trace: Vec<Event>,
+    pub trace: Vec<Event>,
 }
 
 impl Machine {
-    fn boot((code, entry): &(Vec<u32>, u32), replies: Vec<u32>) -> Machine {
+    pub fn boot((code, entry): &(Vec<u32>, u32), replies: Vec<u32>) -> Machine {
         Machine {
             registers: [0; 32],
             pc: *entry,
@@ -84,7 +84,7 @@ impl Machine {
         Ok(())
     }
 
-    fn step(&mut self) -> Stepped {
+    pub fn step(&mut self) -> Stepped {
         if self.pc % 4 != 0 || self.pc >= self.code_bytes {
             return Stepped::Halted("bad-pc");
         }
@@ -141,7 +141,7 @@ impl Machine {
 
 /// The code and the entry of an image: its words stand last, how many there are is its third word, and the entry its fourth.
 /// What is no image is a flat program.
-fn code_of(file: &[u8]) -> (Vec<u32>, u32) {
+pub fn code_of(file: &[u8]) -> (Vec<u32>, u32) {
     let words: Vec<u32> = file
         .chunks_exact(4)
         .map(|bytes| u32::from_le_bytes(bytes.try_into().unwrap()))

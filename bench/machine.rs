@@ -27,7 +27,7 @@ const KINDS: [Kind; 9] = [
 const LETTERS: &[u8; 9] = b"FDXRMWBSA";
 const ENTRIES_IN_A_LINE: usize = 32;
 
-struct Event {
+pub struct Event {
     is_load: bool,
     address: u32,
     value: u32,
@@ -39,15 +39,15 @@ struct Entry {
     kind: Kind,
 }
 
-struct Machine {
+pub struct Machine {
     core: Core,
     board: Board,
     log: Vec<Entry>,
-    trace: Vec<Event>,
+    pub trace: Vec<Event>,
 }
 
 impl Machine {
-    fn boot(code: &[u32], entry: u32, frames: Vec<Frame>, events: usize) -> Machine {
+    pub fn boot(code: &[u32], entry: u32, frames: Vec<Frame>, events: usize) -> Machine {
         Machine {
             core: Core::boot(code, entry),
             board: Board::boot(frames),
@@ -85,11 +85,11 @@ impl Machine {
         self.core.fire(kind, reply);
     }
 
-    /// One worker's draws, up to so many entries.
-    fn draw(&mut self, seed: u32, events: usize) {
+    /// One worker's draws, up to so many entries of the log or accesses of devices.
+    pub fn draw(&mut self, seed: u32, events: usize, accesses: usize) {
         let mut draws = Draws::new(seed);
         let mut place = draws.next() as usize % KINDS.len();
-        while self.log.len() < events && self.core.halted.is_none() {
+        while self.log.len() < events && self.trace.len() < accesses && self.core.halted.is_none() {
             if self.enabled(KINDS[place]) {
                 self.fire(0, KINDS[place]);
                 place = draws.next() as usize % KINDS.len();
@@ -143,17 +143,17 @@ impl Machine {
 }
 
 /// The draws of worker 0: a generator by shifts and exclusive or.
-struct Draws {
+pub struct Draws {
     state: u32,
 }
 
 impl Draws {
-    fn new(seed: u32) -> Draws {
+    pub fn new(seed: u32) -> Draws {
         let state = seed ^ 0x9E37_79B9;
         Draws { state: if state == 0 { 1 } else { state } }
     }
 
-    fn next(&mut self) -> u32 {
+    pub fn next(&mut self) -> u32 {
         self.state ^= self.state << 13;
         self.state ^= self.state >> 17;
         self.state ^= self.state << 5;
@@ -205,7 +205,7 @@ fn main() {
     let (machine, fired) = if *mode == "run" {
         let events: usize = third.parse().expect("a number of events");
         let mut machine = Machine::boot(&code, entry, frames, events);
-        machine.draw(rest[0].parse().expect("a seed"), events);
+        machine.draw(rest[0].parse().expect("a seed"), events, usize::MAX);
         (machine, Ok(()))
     } else {
         let log = log_of(&std::fs::read_to_string(third).expect("a log"));

@@ -1,5 +1,5 @@
 //! A plain pipelined core of the processor's rows, for core.rs and machine.rs. It decodes each word when it decodes the item.
-use crate::rv32::{self, bits};
+use super::rv32::{self, bits};
 use std::collections::VecDeque;
 
 /// How many items each queue between two stages holds.

@@ -49,7 +49,7 @@ pub enum Operator {
 }
 
 /// The operators by their signs, in the order of the variants.
-const OPERATORS: [(&str, Operator); 15] = [
+pub const OPERATORS: [(&str, Operator); 15] = [
     ("+", Operator::Add),
     ("-", Operator::Subtract),
     ("*", Operator::Multiply),

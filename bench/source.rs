@@ -4,7 +4,7 @@
 //! source IMAGE FUEL [trace] reads what `interp` reads from the standard input, the text and the replies, and prints the report
 //! of `interp`, with its trace where that is asked for. The image is that of the text: it tells where the blocks of memory
 //! stand. The rules aren't tried, so the text has to keep them.
-mod reader;
+pub mod reader;
 #[allow(dead_code)] // (of RV32IM only the memory map is needed)
 mod rv32;
 
@@ -18,14 +18,14 @@ const STACK_TOP: u32 = rv32::RAM_BYTES as u32;
 /// The word of an image with the number of its functions; their frames follow.
 const FUNCTIONS_WORD: usize = 4;
 
-struct Event {
+pub struct Event {
     is_load: bool,
     address: u32,
     value: u32,
 }
 
 /// How a run ends.
-enum End {
+pub enum End {
     Spent,
     Starved,
     Undefined(&'static str),
@@ -40,7 +40,7 @@ enum Cell {
 }
 
 /// How many bytes a function's frame has, and the offsets of its blocks in text order.
-struct Frame {
+pub struct Frame {
     size: u32,
     offsets: Vec<u32>,
 }
@@ -57,17 +57,17 @@ impl Call<'_> {
     }
 }
 
-struct Machine<'a> {
+pub struct Machine<'a> {
     functions: HashMap<&'a str, (&'a Function, &'a Frame)>,
     memory: Vec<Cell>,
     stack: u32,
     replies: std::vec::IntoIter<u32>,
-    trace: Vec<Event>,
+    pub trace: Vec<Event>,
     fuel: u32,
 }
 
 impl<'a> Machine<'a> {
-    fn new(program: &'a [Function], frames: &'a [Frame], replies: Vec<u32>, fuel: u32) -> Machine<'a> {
+    pub fn new(program: &'a [Function], frames: &'a [Frame], replies: Vec<u32>, fuel: u32) -> Machine<'a> {
         let framed = program.iter().zip(frames);
         Machine {
             functions: framed.map(|(function, frame)| (function.name.as_str(), (function, frame))).collect(),
@@ -80,7 +80,7 @@ impl<'a> Machine<'a> {
     }
 
     /// `init` once, then `loop` for ever.
-    fn run(&mut self) -> End {
+    pub fn run(&mut self) -> End {
         let mut name = "init";
         loop {
             if let Err(end) = self.call(name, Vec::new()) {
@@ -250,7 +250,7 @@ fn calculate(operator: Operator, a: u32, b: u32) -> u32 {
 }
 
 /// The frames of an image, one for each function in text order.
-fn frames_of(image: &[u8]) -> Vec<Frame> {
+pub fn frames_of(image: &[u8]) -> Vec<Frame> {
     let mut words = image.chunks_exact(4).map(|bytes| u32::from_le_bytes(bytes.try_into().unwrap()));
     let mut next = || words.next().expect("a whole image");
     let header: Vec<u32> = (0..=FUNCTIONS_WORD).map(|_| next()).collect();
@@ -289,13 +289,18 @@ fn report(input: &str, frames: &[Frame], fuel: u32, with_trace: bool) -> String 
     };
     let mut report = format!("mmio {}\nend {ending}\n", machine.trace.len());
     if with_trace {
-        report.push_str("trace\n");
-        for event in &machine.trace {
-            let kind = if event.is_load { "ld" } else { "st" };
-            writeln!(report, "{kind} {:08x} {:08x}", event.address, event.value).unwrap();
-        }
+        append_trace(&mut report, &machine.trace);
     }
     report
+}
+
+/// Adds the part of a report that has the events.
+pub fn append_trace(report: &mut String, trace: &[Event]) {
+    report.push_str("trace\n");
+    for event in trace {
+        let kind = if event.is_load { "ld" } else { "st" };
+        writeln!(report, "{kind} {:08x} {:08x}", event.address, event.value).unwrap();
+    }
 }
 
 fn main() {
