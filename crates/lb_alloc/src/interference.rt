@@ -6,6 +6,7 @@ ghost use Rattle.lb_flat.specs.Order.{IsVariable};
 ghost use Rattle.lb_alloc.specs.InternalSets.{NamesVariables, NamesItsOwn};
 
 use crate::liveness::{live_command, names_in_command};
+use crate::step::step_of;
 use crate::variables::VariableSet;
 use lb_flat::{FlatBlock, FlatCmd, FlatFunction};
 use std::alloc::{AllocError, Global};
@@ -147,24 +148,6 @@ fn note_command(
     ensures { length set.new ≡ length set.old }
 {
     match c {
-        FlatCmd::Literal { target, .. } => graph.note_step(&[], &[*target], set),
-        FlatCmd::Assign { target, source } => {
-            graph.add_copy(*target, *source)?;
-            graph.note_step(&[*source], &[*target], set);
-        }
-        FlatCmd::Binary {
-            target,
-            left,
-            right,
-            ..
-        } => graph.note_step(&[*left, *right], &[*target], set),
-        FlatCmd::Load {
-            target,
-            address,
-            ..
-        } => graph.note_step(&[*address], &[*target], set),
-        FlatCmd::Store { address, value, .. } => graph.note_step(&[*address, *value], &[], set),
-        FlatCmd::Unset { target } => graph.note_step(&[], &[*target], set),
         FlatCmd::StackAlloc { target, body, .. } => {
             note_block(alloc, body, set, graph)?;
             graph.note_step(&[], &[*target], set);
@@ -193,16 +176,14 @@ fn note_command(
             note_block(alloc, before, set, graph)?;
             graph.weight = outer;
         }
-        FlatCmd::Call {
-            targets,
-            arguments,
-            ..
-        } => graph.note_step(arguments.as_slice(), targets.as_slice(), set),
-        FlatCmd::Interact {
-            targets,
-            arguments,
-            ..
-        } => graph.note_step(arguments.as_slice(), targets.as_slice(), set),
+        FlatCmd::Assign { target, source } => {
+            graph.add_copy(*target, *source)?;
+            graph.note_step(&[*source], &[*target], set);
+        }
+        _ => {
+            let step = step_of(c);
+            graph.note_step(step.reads(), step.sets(), set);
+        }
     }
     Ok(())
 }

@@ -8,6 +8,7 @@ mod judgement;
 mod liveness;
 mod proposal;
 mod separation;
+mod step;
 mod variables;
 
 pub use allocation::allocate;

@@ -4,6 +4,7 @@ ghost use Rattle.lb_flat.specs.Code.{chain};
 ghost use Rattle.lb_flat.specs.Flat.{flat_command, flat_block};
 ghost use Rattle.lb_alloc.specs.InternalSets.{IsLiveBefore, NamesVariables};
 
+use crate::step::step_of;
 use crate::variables::VariableSet;
 use lb_flat::{FlatBlock, FlatCmd};
 use std::alloc::{AllocError, Global};
@@ -16,21 +17,6 @@ pub fn live_command(alloc: Global, c: &FlatCmd, set: &mut VariableSet) -> Result
     ensures len { length set.new ≡ length set.old }
 {
     match c {
-        FlatCmd::Literal { target, .. } => set.step_back(&[], &[*target]),
-        FlatCmd::Assign { target, source } => set.step_back(&[*source], &[*target]),
-        FlatCmd::Binary {
-            target,
-            left,
-            right,
-            ..
-        } => set.step_back(&[*left, *right], &[*target]),
-        FlatCmd::Load {
-            target,
-            address,
-            ..
-        } => set.step_back(&[*address], &[*target]),
-        FlatCmd::Store { address, value, .. } => set.step_back(&[*address, *value], &[]),
-        FlatCmd::Unset { target } => set.step_back(&[], &[*target]),
         FlatCmd::StackAlloc { target, body, .. } => {
             live_block(alloc, body, set)?;
             set.step_back(&[], &[*target]);
@@ -53,16 +39,10 @@ pub fn live_command(alloc: Global, c: &FlatCmd, set: &mut VariableSet) -> Result
             set.step_back_test(*condition);
             live_block(alloc, before, set)?;
         }
-        FlatCmd::Call {
-            targets,
-            arguments,
-            ..
-        } => set.step_back(arguments.as_slice(), targets.as_slice()),
-        FlatCmd::Interact {
-            targets,
-            arguments,
-            ..
-        } => set.step_back(arguments.as_slice(), targets.as_slice()),
+        _ => {
+            let step = step_of(c);
+            set.step_back(step.reads(), step.sets());
+        }
     }
     Ok(())
 }

@@ -6,6 +6,7 @@ ghost use Rattle.lb_flat.specs.Order.{IsVariable};
 ghost use Rattle.lb_alloc.specs.InternalSets.{IsLiveBeforeStep, IsLiveBefore, IsAlone, AreAllApart, TellsAllApart, NamesVariables};
 
 use crate::liveness::{live_command, names_in_command};
+use crate::step::step_of;
 use crate::variables::VariableSet;
 use lb_flat::{FlatBlock, FlatCmd, Place};
 use std::alloc::{AllocError, Global};
@@ -70,25 +71,6 @@ pub fn is_command_apart(
     ensures len { length set.new ≡ length set.old }
 {
     match c {
-        FlatCmd::Literal { target, .. } => Ok(is_step_apart(places, &[], &[*target], set)),
-        FlatCmd::Assign { target, source } => {
-            Ok(is_step_apart(places, &[*source], &[*target], set))
-        }
-        FlatCmd::Binary {
-            target,
-            left,
-            right,
-            ..
-        } => Ok(is_step_apart(places, &[*left, *right], &[*target], set)),
-        FlatCmd::Load {
-            target,
-            address,
-            ..
-        } => Ok(is_step_apart(places, &[*address], &[*target], set)),
-        FlatCmd::Store { address, value, .. } => {
-            Ok(is_step_apart(places, &[*address, *value], &[], set))
-        }
-        FlatCmd::Unset { target } => Ok(is_step_apart(places, &[], &[*target], set)),
         FlatCmd::StackAlloc { target, body, .. } => {
             let inside = is_block_apart(alloc, body, places, set)?;
             let start = is_step_apart(places, &[], &[*target], set);
@@ -117,16 +99,10 @@ pub fn is_command_apart(
             *set = head;
             Ok(in_head && in_body)
         }
-        FlatCmd::Call {
-            targets,
-            arguments,
-            ..
-        } => Ok(is_step_apart(places, arguments.as_slice(), targets.as_slice(), set)),
-        FlatCmd::Interact {
-            targets,
-            arguments,
-            ..
-        } => Ok(is_step_apart(places, arguments.as_slice(), targets.as_slice(), set)),
+        _ => {
+            let step = step_of(c);
+            Ok(is_step_apart(places, step.reads(), step.sets(), set))
+        }
     }
 }
 

@@ -1,5 +1,3 @@
-use Rattle.lb_flat.specs.Flat.{flat_executable}
-use Rattle.lb_flat.specs.Located.{lists_of}
 use Rattle.lb_alloc.proofs.AcceptLemmas.{yes_keeps, yes_across}
 use Rattle.lb_alloc.proofs.judgement.accepts.Goals as goal
 
