@@ -1,4 +1,4 @@
--- Commands without blocks, as steps. What stands here is cited by contracts of private functions only.
+-- Commands without blocks, as steps, for the contracts of private functions.
 use Rattle.std.specs.Prelude.{◌≡◌, ℕ, List}
 use Rattle.lb_flat.specs.Code.{Code, Plain}
 use Rattle.lb_flat.specs.Walks.{Step, step}

@@ -133,10 +133,20 @@ emitted (c ∷ cs) rest = Sequence (placed_command c) (emitted cs rest)
 abbrev pub Writes : List PlacedCmd → List PlacedCmd → (Code Place → Code Place) → Type 0
 Writes old new code = (rest : Code Place) → emitted new rest ≡ emitted old (code rest)
 
+-- one command that is this code before a rest
+abbrev pub IsPlaced : PlacedCmd → (Code Place → Code Place) → Type 0
+IsPlaced c code = (rest : Code Place) → Sequence (placed_command c) rest ≡ code rest
+
 -- a command without blocks
 abbrev pub IsPlainCode : Code ℕ → Type 0
 IsPlainCode (Plain o xs ys) = Unit {0}
 IsPlainCode c = ⊥
+
+-- a call or an access
+abbrev pub IsCallCode : Code ℕ → Type 0
+IsCallCode (Plain (Call f) xs ys) = Unit {0}
+IsCallCode (Plain (Access k) xs ys) = Unit {0}
+IsCallCode c = ⊥
 
 -- each variable that code names is one of so many
 abbrev pub NamesBelow : ℕ → Code ℕ → Type 0

@@ -1,11 +1,12 @@
 // The placed code of commands and blocks.
 ghost use Rattle.std.specs.Prelude.{◌≡◌, ◌<◌, [], ◌∷◌, length, IfOk, OnOk};
-ghost use Rattle.lb_flat.specs.Code.{Constant, Compute, Load, Store, Nothing};
+ghost use Rattle.lb_flat.specs.Code.{Constant, Compute, Load, Store, Reserve, Nothing};
 ghost use Rattle.lb_flat.specs.Flat.{flat_command, flat_block};
 ghost use Rattle.lb_flat.specs.Placed.{placed_block};
 ghost use Rattle.lb_flat.specs.Located.{place_of};
 ghost use Rattle.lb_spill.specs.InternalSpill.{computed, copied, spill_plain, spill, emitted};
-ghost use Rattle.lb_spill.specs.InternalSpill.{Writes, IsPlainCode, NamesBelow};
+ghost use Rattle.lb_spill.specs.InternalSpill.{Writes, IsPlaced, NamesBelow};
+ghost use Rattle.lb_spill.specs.InternalSpill.{IsPlainCode, IsCallCode};
 
 use crate::slots::{add, get, place_of, places_of, put, target_register};
 use lb_flat::{
@@ -124,6 +125,36 @@ fn closed(code: Items<PlacedCmd>) -> PlacedBlock
     PlacedBlock { commands: code }
 }
 
+// The placed form of a call or an access: its arguments and targets may be slots.
+fn place_call(c: &FlatCmd, alloc: Global, places: &[Place]) -> Result<PlacedCmd, AllocError>
+    requires call { IsCallCode (flat_command c.now) }
+    requires names { NamesBelow (length places.now) (flat_command c.now) }
+    ensures { IfOk result (λ made.
+        IsPlaced made (spill (place_of places.now) (flat_command c.now))) }
+{
+    match c {
+        FlatCmd::Call {
+            targets,
+            function,
+            arguments,
+        } => Ok(PlacedCmd::Call {
+            targets: places_of(alloc, places, targets.as_slice())?,
+            function: *function,
+            arguments: places_of(alloc, places, arguments.as_slice())?,
+        }),
+        FlatCmd::Interact {
+            targets,
+            action,
+            arguments,
+        } => Ok(PlacedCmd::Interact {
+            targets: places_of(alloc, places, targets.as_slice())?,
+            action: *action,
+            arguments: places_of(alloc, places, arguments.as_slice())?,
+        }),
+        _ => unreachable!(),
+    }
+}
+
 // Adds the code of a command without blocks.
 fn add_plain(
     c: &FlatCmd,
@@ -168,41 +199,7 @@ fn add_plain(
             add_store(code, *width, address, place_of(places, *value))
         }
         FlatCmd::Unset { .. } => Ok(()),
-        FlatCmd::Call {
-            targets,
-            function,
-            arguments,
-        } => {
-            let targets = places_of(alloc, places, targets.as_slice())?;
-            let arguments = places_of(alloc, places, arguments.as_slice())?;
-            let function = *function;
-            add(
-                code,
-                PlacedCmd::Call {
-                    targets,
-                    function,
-                    arguments,
-                },
-            )
-        }
-        FlatCmd::Interact {
-            targets,
-            action,
-            arguments,
-        } => {
-            let targets = places_of(alloc, places, targets.as_slice())?;
-            let arguments = places_of(alloc, places, arguments.as_slice())?;
-            let action = *action;
-            add(
-                code,
-                PlacedCmd::Interact {
-                    targets,
-                    action,
-                    arguments,
-                },
-            )
-        }
-        _ => unreachable!(),
+        _ => add(code, place_call(c, alloc, places)?),
     }
 }
 
@@ -224,18 +221,8 @@ fn add_command(
             target,
             body,
         } => {
-            let to = place_of(places, *target);
-            let mut inner = Items::new(alloc);
-            put(&mut inner, to)?;
-            add_commands(body, alloc, places, &mut inner)?;
-            add(
-                code,
-                PlacedCmd::StackAlloc {
-                    bytes: *bytes,
-                    target: target_register(to),
-                    body: closed(inner),
-                },
-            )
+            let reserved = place_stack_alloc(*bytes, *target, body, alloc, places)?;
+            add(code, reserved)
         }
         FlatCmd::If { condition, yes, no } => {
             let condition = get(code, FIRST_SCRATCH_REGISTER, place_of(places, *condition))?;
@@ -265,6 +252,31 @@ fn add_command(
         }
         _ => add_plain(c, alloc, places, code),
     }
+}
+
+// The placed form of a stackalloc: where the address has a slot, the body first puts it there.
+#[cycle(code)]
+fn place_stack_alloc(
+    bytes: u32,
+    target: u32,
+    body: &FlatBlock,
+    alloc: Global,
+    places: &[Place],
+) -> Result<PlacedCmd, AllocError>
+    requires target { target < length places.now }
+    requires body { NamesBelow (length places.now) (flat_block body.now) }
+    ensures { IfOk result (λ made. IsPlaced made
+        (spill (place_of places.now) (Reserve bytes target (flat_block body.now)))) }
+{
+    let to = place_of(places, target);
+    let mut inner = Items::new(alloc);
+    put(&mut inner, to)?;
+    add_commands(body, alloc, places, &mut inner)?;
+    Ok(PlacedCmd::StackAlloc {
+        bytes,
+        target: target_register(to),
+        body: closed(inner),
+    })
 }
 
 // Adds the code of a block's commands.
