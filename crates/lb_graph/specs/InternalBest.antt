@@ -17,6 +17,10 @@ pub record IsStep (g : List (List ℕ)) (weights best : List ℕ) (nodes : ℕ) 
   pub as_long : length next ≡ nodes
   pub value : (v : ℕ) → v < nodes → (n : ℕ) × IsGreatestAmong best (successors g v) n × (slice_index next v ≡ slice_index weights v + n)
 
+-- the same for all nodes of the graph
+abbrev pub IsWholeStep : List (List ℕ) → List ℕ → List ℕ → List ℕ → Type 0
+IsWholeStep g weights best next = IsStep g weights best (length g) next
+
 -- at each node the weight of a path from there, and none of at most k edges has more
 pub record IsBestUpTo (g : List (List ℕ)) (weights : List ℕ) (k : ℕ) (best : List ℕ) : Type 0 where
   pub as_long : length best ≡ length g

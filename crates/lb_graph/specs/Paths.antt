@@ -19,6 +19,10 @@ LeadsTo g v w = (path : List ℕ) × IsPath g (v ∷ path ++ w ∷ [])
 abbrev pub IsOnCycle : List (List ℕ) → ℕ → Type 0
 IsOnCycle g v = LeadsTo g v v
 
+-- no node below v lies on a cycle
+abbrev pub NoneBelowOnCycle : List (List ℕ) → ℕ → Type 0
+NoneBelowOnCycle g v = (w : ℕ) → w < v → ¬ (IsOnCycle g w)
+
 -- no node lies on a cycle
 abbrev pub IsAcyclic : List (List ℕ) → Type 0
 IsAcyclic g = (v : ℕ) → ¬ (IsOnCycle g v)

@@ -1,7 +1,7 @@
 // The first node on a cycle.
-ghost use Rattle.std.specs.Prelude.{ℕ, ◌≡◌, ◌<◌, ◌↔◌, [], ◌∷◌, length, IfOk, IfSome, IfNone, OnOk};
-ghost use Rattle.lb_graph.specs.Paths.{LeadsTo, IsOnCycle, IsAcyclic};
-ghost use Rattle.lb_graph.specs.InternalSearch.{IsMarked, IsOrderOf, Adds};
+ghost use Rattle.std.specs.Prelude.{ℕ, ◌≡◌, ◌<◌, [], ◌∷◌, length, IfOk, IfSome, IfNone, OnOk};
+ghost use Rattle.lb_graph.specs.Paths.{IsOnCycle, NoneBelowOnCycle, IsAcyclic};
+ghost use Rattle.lb_graph.specs.InternalSearch.{IsMarked, MarksReached, IsOrderOf, Finds};
 
 use crate::graph::Graph;
 use std::alloc::{AllocError, Global};
@@ -10,7 +10,7 @@ use std::alloc::{AllocError, Global};
 /// The error comes only for want of memory.
 pub fn first_on_cycle(alloc: Global, graph: &Graph) -> Result<Option<usize>, AllocError>
     ensures found { IfOk result (λ first. IfSome first (λ v. IsOnCycle graph.now.calls v)) }
-    ensures least { IfOk result (λ first. IfSome first (λ v. (w : ℕ) → w < v → ¬ (IsOnCycle graph.now.calls w))) }
+    ensures least { IfOk result (λ first. IfSome first (NoneBelowOnCycle graph.now.calls)) }
     ensures none { IfOk result (λ first. IfNone first (IsAcyclic graph.now.calls)) }
 {
     for v in 0..graph.calls.len() {
@@ -26,7 +26,7 @@ pub fn first_on_cycle(alloc: Global, graph: &Graph) -> Result<Option<usize>, All
 fn reached_from(alloc: Global, graph: &Graph, start: usize) -> Result<Vec<bool>, AllocError>
     requires { start < length graph.now.calls }
     ensures length { IfOk result (λ marks. length marks.items ≡ length graph.now.calls) }
-    ensures marks { IfOk result (λ marks. (v : ℕ) → IsMarked marks.items v ↔ LeadsTo graph.now.calls start v) }
+    ensures marks { IfOk result (λ marks. MarksReached graph.now.calls start marks.items) }
 {
     let calls = graph.calls.as_slice();
     let mut found = Found::new(alloc, calls.len())?;
@@ -63,7 +63,7 @@ impl Found {
     // Finds these nodes.
     fn add(&mut self, calls: &[u16]) -> Result<(), AllocError>
         requires { IsOrderOf self.old.marks.items self.old.order.items }
-        ensures { OnOk result (Adds calls.now self.old.marks.items self.old.order.items self.new.marks.items self.new.order.items) }
+        ensures { OnOk result (Finds calls.now self.old self.new) }
     {
         for node in calls {
             self.add_one(*node)?;
@@ -74,7 +74,7 @@ impl Found {
     // Finds this node, if it is one and isn't found yet.
     fn add_one(&mut self, node: u16) -> Result<(), AllocError>
         requires { IsOrderOf self.old.marks.items self.old.order.items }
-        ensures { OnOk result (Adds (node ∷ []) self.old.marks.items self.old.order.items self.new.marks.items self.new.order.items) }
+        ensures { OnOk result (Finds (node ∷ []) self.old self.new) }
     {
         let at = usize::from(node);
         if at < self.marks.len() && !self.marks[at] {

@@ -1,7 +1,7 @@
 // The greatest weight of a path.
 ghost use Rattle.std.specs.Prelude.{ℕ, ◌≡◌, ◌+◌, ◌^◌, ◌<◌, ◌≤◌, length, slice_index, IfOk};
 ghost use Rattle.lb_graph.specs.Paths.{IsAcyclic, IsGreatestWeight};
-ghost use Rattle.lb_graph.specs.InternalBest.{IsGreatestAmong, IsGreatest, IsStep, IsBest};
+ghost use Rattle.lb_graph.specs.InternalBest.{IsGreatestAmong, IsGreatest, IsWholeStep, IsBest};
 
 use crate::graph::Graph;
 use std::alloc::{AllocError, Global};
@@ -45,7 +45,7 @@ fn one_edge_more(
 ) -> Result<Vec<u64>, AllocError>
     requires weighed { length weights.now ≡ length graph.now.calls }
     requires room { (v : ℕ) → slice_index best.now v + 2 ^ 32 < 2 ^ 64 }
-    ensures { IfOk result (λ next. IsStep graph.now.calls weights.now best.now (length graph.now.calls) next.items) }
+    ensures { IfOk result (λ next. IsWholeStep graph.now.calls weights.now best.now next.items) }
 {
     let mut next = Vec::with_capacity(alloc, weights.len())?;
     for (node, calls) in graph.calls.as_slice().iter().enumerate() {

@@ -1,6 +1,5 @@
-use Rattle.std.proofs.Common.{ℕ, ◌<◌}
-use Rattle.lb_graph.specs.Paths.{IsOnCycle}
+use Rattle.lb_graph.specs.Paths.{NoneBelowOnCycle}
 use Rattle.lb_graph.proofs.cycle.first_on_cycle.Given as goal
 
 abbrev pub invariant-loop-v : goal.invariant-loop-v
-invariant-loop-v l = (w : ℕ) → w < l.v → ¬ (IsOnCycle l.graph.calls w)
+invariant-loop-v l = NoneBelowOnCycle l.graph.calls l.v
