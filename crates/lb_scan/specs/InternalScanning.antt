@@ -1,15 +1,18 @@
 -- What the parts of a scan say. Only contracts of private functions cite it.
-use Rattle.std.specs.Prelude.{◌≡◌, ℕ, ◌<◌, ◌≤◌, ◌^◌, ◌⊎◌, Bool, true, false, ◌&&◌, ◌==◌, [], ◌∷◌, ◌++◌, length, take, drop, slice_index, Some, is_some}
+use Rattle.std.specs.Prelude.{◌≡◌, ℕ, ◌<◌, ◌≤◌, ◌^◌, ◌⊎◌, Bool, true, false, ◌&&◌, ◌==◌, List, [], ◌∷◌, ◌++◌, length, take, drop, slice_index, Option, Some, None, is_some, MatchOption}
+use Rattle.std.specs.Borrow.{Bor}
 use Rattle.std.specs.Char.{is_digit}
-use Rattle.std.specs.List.{list_all}
+use Rattle.std.specs.List.{list_all, list_any, find}
 use Rattle.std.specs.Str.Parse.{digits_value}
 use Rattle.lb_syntax.specs.Brackets.{most_brackets}
 use Rattle.lb_syntax.specs.Names.{Text}
 use Rattle.lb_spelling.specs.declared.fault.TextKind.TheVariants.{Ended, NumberTooWide}
 use Rattle.lb_spelling.specs.declared.symbol.Symbol.{Symbol}
-use Rattle.lb_spelling.specs.InternalMachine.{Stack, Lex, Between, InComment, Part, Stuck, run, next, unexpected}
-use Rattle.lb_spelling.specs.Tokens.{Token, Numeral, Mode, Outside, Slash, Comment, gap, is_blank, is_word_byte, lexeme, joins, IsLongest}
+use Rattle.lb_spelling.specs.InternalMachine.{Stack, Lex, Between, InComment, Part, Stuck, run, next, next_of, unexpected}
+use Rattle.lb_spelling.specs.Tokens.{Token, Numeral, Named, Mode, Outside, Slash, Comment, gap, is_blank, is_word_byte, is_word, is_hex, hex_mark, same, begins_with, spelling, lexeme, joins, IsLongest}
 use Rattle.lb_scan.specs.declared.syntax_error.SyntaxError.{SyntaxError}
+use Rattle.lb_scan.specs.declared.token.Token.{Token as ScannedToken}
+use Rattle.lb_scan.specs.Tokens.{token_of}
 
 -- ---- blanks and comments
 
@@ -29,6 +32,10 @@ abbrev pub BeginsToken : Text → Type 0
 BeginsToken [] = Unit {0}
 BeginsToken (b ∷ []) = is_blank b ≡ false
 BeginsToken (b ∷ c ∷ s) = (is_blank b ≡ false) × ((b == 47) && (c == 47) ≡ false)
+
+-- what is left behind one blank or one comment; none, where neither stands at the front
+abbrev pub SkipsOne : Text → Option (Bor Text) → Type 0
+SkipsOne s left = MatchOption left (BeginsToken s) (λ rest. Skips Outside s rest.now)
 
 -- ---- faults
 
@@ -77,6 +84,18 @@ abbrev pub NoDigitFault : Text → SyntaxError → Type 0
 NoDigitFault [] error = (error.kind ≡ Ended) × (error.left ≡ 0)
 NoDigitFault (b ∷ s) error = (is_digit b 16 ≡ false) × (error.kind ≡ unexpected b) × (error.left ≡ length (b ∷ s))
 
+-- no digit stands at the front, or behind those there stands what makes no number with them
+abbrev pub HexadecimalFault : Text → SyntaxError → Type 0
+HexadecimalFault s error = NoDigitFault s error ⊎ DigitsFault 16 s error
+
+-- what stands behind the mark of a hexadecimal number; none, where no mark stands at the front
+abbrev pub IsBehindMark : Text → Option (Bor Text) → Type 0
+IsBehindMark s left = MatchOption left (is_hex s ≡ false) (λ rest. s ≡ hex_mark ++ rest.now)
+
+-- the number n; none, where it is 2^32 or more
+abbrev pub IsWordOrNone : ℕ → Option ℕ → Type 0
+IsWordOrNone n result = MatchOption result (2 ^ 32 ≤ n) (λ m. (m ≡ n) × (m < 2 ^ 32))
+
 -- the number stands at the front of s, before rest
 pub record ReadsNumber (s : Text) (value : ℕ) (rest : Text) : Type 0 where
   pub word : Text
@@ -103,6 +122,10 @@ pub record IsTaken (x : Symbol) (w : Text) (t : Token) : Type 0 where
   pub spelled : lexeme w ≡ Some t
   pub taken : is_some (next x t) ≡ true
 
+-- the token that w spells, which x takes; none, where x takes no token that w spells
+abbrev pub IsTokenFor : Symbol → Text → Option ScannedToken → Type 0
+IsTokenFor x w found = MatchOption found (next_of x (lexeme w) ≡ None) (λ t. IsTaken x w (token_of t))
+
 -- the token t, which x takes, stands at the front of s, before rest
 pub record ReadsWord (x : Symbol) (s : Text) (t : Token) (rest : Text) : Type 0 where
   pub word : Text
@@ -110,3 +133,31 @@ pub record ReadsWord (x : Symbol) (s : Text) (t : Token) (rest : Text) : Type 0 
   pub spelled : lexeme word ≡ Some t
   pub longest : IsLongest word rest
   pub taken : is_some (next x t) ≡ true
+
+-- x takes names, and these bytes begin one
+abbrev pub begins_name : Symbol → Text → Bool
+begins_name x s = is_some (next x (Named [])) && is_word s
+
+-- ---- tables of tokens
+
+-- the first of the tokens that is spelled so
+abbrev pub first_spelled : List Token → Text → Option Token
+first_spelled ts s = find (λ t. same (spelling t) s) ts
+
+-- these bytes begin the spelling of one of the tokens
+abbrev pub begins_some : List Token → Text → Bool
+begins_some ts s = list_any (λ t. begins_with s (spelling t)) ts
+
+-- these bytes begin the spelling of one of the tokens that x takes
+abbrev pub begins_taken : Symbol → List Token → Text → Bool
+begins_taken x ts s = list_any (λ t. is_some (next x t) && begins_with s (spelling t)) ts
+
+-- the same three of tokens that the code has
+abbrev pub first_scanned : List ScannedToken → Text → Option ScannedToken
+first_scanned ts s = find (λ t. same (spelling (token_of t)) s) ts
+
+abbrev pub begins_scanned : List ScannedToken → Text → Bool
+begins_scanned ts s = list_any (λ t. begins_with s (spelling (token_of t))) ts
+
+abbrev pub begins_scanned_taken : Symbol → List ScannedToken → Text → Bool
+begins_scanned_taken x ts s = list_any (λ t. is_some (next x (token_of t)) && begins_with s (spelling (token_of t))) ts

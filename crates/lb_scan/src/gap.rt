@@ -1,7 +1,7 @@
 // Blanks and comments.
 ghost use Rattle.std.specs.Prelude.{◌<◌, ◌≤◌, ◌≡◌, ◌∷◌, [], ⊤, MatchOption, length};
 ghost use Rattle.lb_spelling.specs.Tokens.{Outside, Comment};
-ghost use Rattle.lb_scan.specs.InternalScanning.{Skips, BeginsToken};
+ghost use Rattle.lb_scan.specs.InternalScanning.{Skips, SkipsOne, BeginsToken};
 
 use crate::bytes::is_blank;
 
@@ -30,7 +30,7 @@ fn after_comment(bytes: &[u8]) -> &[u8]
 
 // The bytes behind one blank or one comment.
 fn skip_one(bytes: &[u8]) -> Option<&[u8]>
-    ensures skips { MatchOption result (BeginsToken bytes.now) (λ rest. Skips Outside bytes.now rest.now) }
+    ensures skips { SkipsOne bytes.now result }
     ensures shorter { MatchOption result ⊤ (λ rest. length rest.now < length bytes.now) }
 {
     let (b, rest) = first(bytes)?;

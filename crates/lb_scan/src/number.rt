@@ -1,7 +1,6 @@
 // Numbers.
-ghost use Rattle.std.specs.Prelude.{◌≡◌, ◌<◌, ◌≤◌, ◌+◌, ◌*◌, ◌^◌, ◌++◌, ◌⊎◌, true, false, IfOk, IfErr, MatchOption};
-ghost use Rattle.lb_spelling.specs.Tokens.{is_hex, hex_mark};
-ghost use Rattle.lb_scan.specs.InternalScanning.{begins_with_digit, ReadsDigits, DigitsFault, NoDigitFault, ReadsNumber, NumberFault};
+ghost use Rattle.std.specs.Prelude.{◌≡◌, ◌≤◌, ◌+◌, ◌*◌, true, IfOk, IfErr};
+ghost use Rattle.lb_scan.specs.InternalScanning.{begins_with_digit, ReadsDigits, DigitsFault, HexadecimalFault, IsBehindMark, IsWordOrNone, ReadsNumber, NumberFault};
 
 use crate::bytes::{is_word_byte, unexpected};
 use crate::gap::first;
@@ -22,7 +21,7 @@ pub fn number(bytes: &[u8]) -> Result<(u32, &[u8]), SyntaxError>
 
 // The bytes behind the mark of a hexadecimal number.
 fn behind_mark(bytes: &[u8]) -> Option<&[u8]>
-    ensures { MatchOption result (is_hex bytes.now ≡ false) (λ rest. bytes.now ≡ hex_mark ++ rest.now) }
+    ensures { IsBehindMark bytes.now result }
 {
     bytes.strip_prefix(b"0x")
 }
@@ -30,7 +29,7 @@ fn behind_mark(bytes: &[u8]) -> Option<&[u8]>
 // The number behind its mark, which has one digit or more.
 fn hexadecimal(bytes: &[u8]) -> Result<(u32, &[u8]), SyntaxError>
     ensures found { IfOk result (λ r. ReadsDigits 16 bytes.now r.0 r.1.now) }
-    ensures fault { IfErr result (λ error. NoDigitFault bytes.now error ⊎ DigitsFault 16 bytes.now error) }
+    ensures fault { IfErr result (λ error. HexadecimalFault bytes.now error) }
 {
     let Some((b, _)) = first(bytes) else {
         return Err(SyntaxError {
@@ -81,7 +80,7 @@ fn digits(radix: u32, bytes: &[u8]) -> Result<(u32, &[u8]), SyntaxError>
 
 // The number with one digit more, if it is below 2^32.
 fn with_digit(value: u32, radix: u32, digit: u32) -> Option<u32>
-    ensures { MatchOption result (2 ^ 32 ≤ value * radix + digit) (λ longer. (longer ≡ value * radix + digit) × (longer < 2 ^ 32)) }
+    ensures { IsWordOrNone (value * radix + digit) result }
 {
     value.checked_mul(radix)?.checked_add(digit)
 }

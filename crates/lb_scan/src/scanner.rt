@@ -1,11 +1,11 @@
 // One token.
-ghost use Rattle.std.specs.Prelude.{◌≡◌, ◌≤◌, ◌<◌, ◌||◌, ◌↔◌, ◌∷◌, [], true, false, None, IfOk, IfErr, IsTrue, MatchOption, length, take};
-ghost use Rattle.lb_spelling.specs.Tokens.{Outside, gap, begins_with, comment_start, lexeme};
-ghost use Rattle.lb_spelling.specs.InternalMachine.{Stack, ends, begins_one, next_of};
+ghost use Rattle.std.specs.Prelude.{◌≡◌, ◌≤◌, ◌<◌, ◌↔◌, ◌∷◌, [], true, false, IfOk, IfErr, IsTrue, length, take};
+ghost use Rattle.lb_spelling.specs.InternalMachine.{Stack, ends, begins};
 ghost use Rattle.lb_spelling.specs.InternalParsing.{Takes, Faults};
 ghost use Rattle.lb_syntax.specs.Brackets.{most_brackets, open_after};
 ghost use Rattle.lb_scan.specs.Tokens.{token_of};
-ghost use Rattle.lb_scan.specs.InternalScanning.{BeginsToken, begins_with_digit, IsStuckIn, IsTaken, ReadsWord};
+ghost use Rattle.lb_scan.specs.Scanned.{TakesOrEnds};
+ghost use Rattle.lb_scan.specs.InternalScanning.{BeginsToken, begins_with_digit, IsStuckIn, IsTokenFor, ReadsWord};
 
 use crate::bytes::{is_digit, unexpected};
 use crate::gap::{first, skip};
@@ -42,7 +42,7 @@ pub fn scan_or_end(
     bytes: &[u8],
 ) -> Result<Option<(Token, &[u8])>, SyntaxError>
     requires { depth ≤ most_brackets }
-    ensures found { IfOk result (λ o. MatchOption o (gap true Outside bytes.now ≡ true) (λ r. Takes depth expected (token_of r.0) bytes.now r.1.now)) }
+    ensures found { IfOk result (λ o. TakesOrEnds depth expected bytes.now o) }
     ensures fault { IfErr result (λ error. Faults depth expected bytes.now error.kind error.left) }
 {
     let start = skip(bytes);
@@ -55,7 +55,7 @@ pub fn scan_or_end(
 
 // Whether a token that `expected` takes begins with this byte, or a comment does.
 fn may_begin(expected: Symbol, b: u8) -> bool
-    ensures { result ≡ (begins_one expected (b ∷ []) || begins_with (b ∷ []) comment_start) }
+    ensures { result ≡ begins (expected ∷ []) (b ∷ []) }
 {
     if is_digit(b) {
         takes(expected, &Token::Number(0))
@@ -77,7 +77,7 @@ fn word_or_sign(expected: Symbol, bytes: &[u8]) -> Result<(Token, &[u8]), Syntax
     requires some { 0 < length bytes.now }
     requires token { BeginsToken bytes.now }
     requires no_digit { begins_with_digit 10 bytes.now ≡ false }
-    requires begun { (begins_one expected (take 1 bytes.now) || begins_with (take 1 bytes.now) comment_start) ≡ true }
+    requires begun { begins (expected ∷ []) (take 1 bytes.now) ≡ true }
     ensures found { IfOk result (λ r. ReadsWord expected bytes.now (token_of r.0) r.1.now) }
     ensures fault { IfErr result (λ error. IsStuckIn expected bytes.now error) }
 {
@@ -92,7 +92,7 @@ fn word_or_sign(expected: Symbol, bytes: &[u8]) -> Result<(Token, &[u8]), Syntax
 // The word or sign of this spelling, if `expected` takes it.
 fn token_for(expected: Symbol, spelling: &[u8]) -> Option<Token>
     requires { begins_with_digit 10 spelling.now ≡ false }
-    ensures { MatchOption result (next_of expected (lexeme spelling.now) ≡ None) (λ token. IsTaken expected spelling.now (token_of token)) }
+    ensures { IsTokenFor expected spelling.now result }
 {
     let token = lexeme(spelling)?;
     if takes(expected, &token) {

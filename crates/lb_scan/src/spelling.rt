@@ -1,11 +1,11 @@
 // Words and signs, and what their beginnings may become.
-ghost use Rattle.std.specs.Prelude.{◌≡◌, ◌<◌, ◌&&◌, ◌||◌, [], true, false, None, is_some, length, take, slice_index};
+ghost use Rattle.std.specs.Prelude.{◌≡◌, ◌<◌, ◌&&◌, ◌∷◌, [], true, false, None, length, take, slice_index};
 ghost use Rattle.std.specs.List.{list_all};
 ghost use Rattle.lb_syntax.specs.Names.{starts_name};
 ghost use Rattle.lb_spelling.specs.Tokens as tokens;
 ghost use Rattle.lb_spelling.specs.InternalMachine as machine;
 ghost use Rattle.lb_scan.specs.Tokens.{token_of_option};
-ghost use Rattle.lb_scan.specs.InternalScanning.{IsSpelled, begins_with_digit, BeginsToken, IsStuckIn};
+ghost use Rattle.lb_scan.specs.InternalScanning.{IsSpelled, begins_with_digit, begins_name, BeginsToken, IsStuckIn};
 
 use crate::bytes::{begins_with, is_name_start, is_word_byte, unexpected};
 use crate::gap::first;
@@ -95,7 +95,7 @@ fn are_word_bytes(bytes: &[u8]) -> bool
 /// Whether a word or sign that `expected` takes begins so, or a comment does.
 pub fn begins(expected: Symbol, bytes: &[u8]) -> bool
     requires { begins_with_digit 10 bytes.now ≡ false }
-    ensures { result ≡ (machine.begins_one expected bytes.now || tokens.begins_with bytes.now tokens.comment_start) }
+    ensures { result ≡ machine.begins (expected ∷ []) bytes.now }
 {
     if begins_name(expected, bytes) {
         return true;
@@ -108,7 +108,7 @@ pub fn begins(expected: Symbol, bytes: &[u8]) -> bool
 
 // Whether `expected` takes names, and these bytes begin one.
 fn begins_name(expected: Symbol, bytes: &[u8]) -> bool
-    ensures { result ≡ (is_some (machine.next expected (tokens.Named [])) && tokens.is_word bytes.now) }
+    ensures { result ≡ begins_name expected bytes.now }
 {
     takes(expected, &Token::Name(b"")) && is_word(bytes)
 }
@@ -118,7 +118,7 @@ pub fn syntax_error_in(expected: Symbol, bytes: &[u8], len: usize) -> SyntaxErro
     requires spelled { IsSpelled bytes.now len }
     requires token { BeginsToken bytes.now }
     requires no_digit { begins_with_digit 10 bytes.now ≡ false }
-    requires begun { (machine.begins_one expected (take 1 bytes.now) || tokens.begins_with (take 1 bytes.now) tokens.comment_start) ≡ true }
+    requires begun { machine.begins (expected ∷ []) (take 1 bytes.now) ≡ true }
     requires untaken { machine.next_of expected (tokens.lexeme (take len bytes.now)) ≡ None }
     ensures { IsStuckIn expected bytes.now result }
 {

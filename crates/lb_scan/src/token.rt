@@ -1,9 +1,9 @@
 // Tokens, and where they are taken.
-ghost use Rattle.std.specs.Prelude.{◌≡◌, ◌&&◌, map, is_some};
-ghost use Rattle.std.specs.List.{find, list_any};
+ghost use Rattle.std.specs.Prelude.{◌≡◌, map, is_some};
 ghost use Rattle.lb_spelling.specs.Tokens as tokens;
 ghost use Rattle.lb_spelling.specs.InternalMachine.{next};
 ghost use Rattle.lb_scan.specs.Tokens.{token_of, token_of_option};
+ghost use Rattle.lb_scan.specs.InternalScanning.{first_spelled, begins_some, begins_taken, first_scanned, begins_scanned, begins_scanned_taken};
 
 use crate::bytes::{begins_with, same};
 use lb_spelling::{Symbol, sign_of};
@@ -138,20 +138,20 @@ pub fn spelling<'a>(token: &Token<'a>) -> &'a [u8]
 
 /// The token of which these bytes are the one spelling.
 pub fn fixed(bytes: &[u8]) -> Option<Token<'static>>
-    ensures { token_of_option result ≡ find (λ t. tokens.same (tokens.spelling t) bytes.now) tokens.fixed }
+    ensures { token_of_option result ≡ first_spelled tokens.fixed bytes.now }
 {
     token_among(&FIXED, bytes)
 }
 
 // The token among these that is spelled so.
 fn token_among(table: &[Token<'static>], bytes: &[u8]) -> Option<Token<'static>>
-    ensures { token_of_option result ≡ find (λ t. tokens.same (tokens.spelling t) bytes.now) (map token_of table.now) }
+    ensures { token_of_option result ≡ first_spelled (map token_of table.now) bytes.now }
 {
     first_spelled(table, bytes)
 }
 
 fn first_spelled(table: &[Token<'static>], bytes: &[u8]) -> Option<Token<'static>>
-    ensures { result ≡ find (λ token. tokens.same (tokens.spelling (token_of token)) bytes.now) table.now }
+    ensures { result ≡ first_scanned table.now bytes.now }
 {
     table
         .iter()
@@ -161,14 +161,14 @@ fn first_spelled(table: &[Token<'static>], bytes: &[u8]) -> Option<Token<'static
 
 /// Whether these bytes begin one of the fixed spellings.
 pub fn begins_fixed(bytes: &[u8]) -> bool
-    ensures { result ≡ list_any (λ t. tokens.begins_with bytes.now (tokens.spelling t)) tokens.fixed }
+    ensures { result ≡ begins_some tokens.fixed bytes.now }
 {
     begins_some(&FIXED, bytes)
 }
 
 // Whether these bytes begin one of these tokens.
 fn begins_some(table: &[Token], bytes: &[u8]) -> bool
-    ensures { result ≡ list_any (λ token. tokens.begins_with bytes.now (tokens.spelling (token_of token))) table.now }
+    ensures { result ≡ begins_scanned table.now bytes.now }
 {
     table
         .iter()
@@ -177,14 +177,14 @@ fn begins_some(table: &[Token], bytes: &[u8]) -> bool
 
 /// Whether these bytes begin one of the fixed spellings that `expected` takes.
 pub fn begins_taken(expected: Symbol, bytes: &[u8]) -> bool
-    ensures { result ≡ list_any (λ t. is_some (next expected t) && tokens.begins_with bytes.now (tokens.spelling t)) tokens.fixed }
+    ensures { result ≡ begins_taken expected tokens.fixed bytes.now }
 {
     begins_some_taken(expected, &FIXED, bytes)
 }
 
 // Whether these bytes begin one of these tokens that `expected` takes.
 fn begins_some_taken(expected: Symbol, table: &[Token], bytes: &[u8]) -> bool
-    ensures { result ≡ list_any (λ token. is_some (next expected (token_of token)) && tokens.begins_with bytes.now (tokens.spelling (token_of token))) table.now }
+    ensures { result ≡ begins_scanned_taken expected table.now bytes.now }
 {
     table.iter().any(|token| takes(expected, token) && begins_with(bytes, spelling(token)))
 }
