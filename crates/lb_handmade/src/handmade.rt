@@ -2,6 +2,7 @@
 ghost use Rattle.std.specs.Prelude.{◌≡◌, IfOk, OnOk, IsErrOf};
 ghost use Rattle.lb_syntax.specs.Tree.{program_of};
 ghost use Rattle.lb_syntax.specs.Rules.{KeepsRules};
+ghost use Rattle.lb_handmade.specs.Faults.{BreaksARule};
 
 use crate::size::has_few_parts;
 use lb_check::{CheckError, Checked, check};
@@ -48,7 +49,7 @@ impl From<NameFault> for NotChecked {
 pub fn checked(alloc: Global, program: Program) -> Result<Checked, NotChecked>
     ensures program { IfOk result (λ checked. checked ≡ program) }
     ensures rules { OnOk result (KeepsRules (program_of program)) }
-    ensures refused { IsErrOf result NotChecked.BreaksRule → ¬ (KeepsRules (program_of program)) }
+    ensures refused { IsErrOf result NotChecked.BreaksRule → BreaksARule (program_of program) }
     ensures named { ¬ (IsErrOf result NotChecked.NotAName) }
 {
     if !has_few_parts(&program) {

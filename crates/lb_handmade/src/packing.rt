@@ -4,7 +4,7 @@ ghost use Rattle.lb_syntax.specs.declared.limits.TheConstants.{MOST_FRAME};
 ghost use Rattle.lb_syntax.specs.Tree.{command_of, block_of, procedure_of, program_of};
 ghost use Rattle.lb_syntax.specs.Needs.{sites, frame_need};
 ghost use Rattle.lb_syntax.specs.Layouts.{IsValidLayout};
-ghost use Rattle.lb_handmade.specs.Packed.{packed, packed_frames};
+ghost use Rattle.lb_handmade.specs.Packed.{packed, packed_frames, IsPackedLayout};
 
 use lb_check::Checked;
 use lb_syntax::{Block, Cmd, FrameLayout, Function, Layout};
@@ -14,7 +14,7 @@ use std::alloc::{AllocError, Global};
 /// A layout of the program: each frame has its blocks in text order, one after another, and nothing else.
 pub fn packed_layout(alloc: Global, program: &Checked) -> Result<Layout, AllocError>
     ensures valid { IfOk result (λ layout. IsValidLayout layout (program_of program.now)) }
-    ensures packed { IfOk result (λ layout. layout.frames ≡ packed_frames (program_of program.now)) }
+    ensures packed { IfOk result (λ layout. IsPackedLayout layout (program_of program.now)) }
 {
     let frames = frames_of(alloc, program.program().functions.as_slice())?;
     Ok(Layout { frames })

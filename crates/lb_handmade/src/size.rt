@@ -1,8 +1,9 @@
 // How large a program is.
-ghost use Rattle.std.specs.Prelude.{◌≡◌, ◌+◌, ◌<◌, ◌^◌, ◌↔◌, map, sum, length, IsTrue, MatchOption};
+ghost use Rattle.std.specs.Prelude.{◌<◌, ◌^◌, ◌↔◌, map, sum, IsTrue};
 ghost use Rattle.lb_syntax.specs.Tree.{term_of, command_of, block_of, procedure_of, program_of};
 ghost use Rattle.lb_syntax.specs.Needs.{nodes};
 ghost use Rattle.lb_check.specs.Parts.{body_parts, function_parts, parts};
+ghost use Rattle.lb_handmade.specs.InternalSize.{Leaves};
 
 use lb_syntax::{Block, Cmd, Expr, Function, Program};
 
@@ -18,7 +19,7 @@ pub fn has_few_parts(program: &Program) -> bool
 
 // What is left of the room behind these functions; None where they have more parts.
 fn after_functions(functions: &[Function], room: usize) -> Option<usize>
-    ensures { MatchOption result (room < parts (map procedure_of functions.now)) (λ left. left + parts (map procedure_of functions.now) ≡ room) }
+    ensures { Leaves room (parts (map procedure_of functions.now)) result }
 {
     let mut left = room;
     for function in functions {
@@ -29,7 +30,7 @@ fn after_functions(functions: &[Function], room: usize) -> Option<usize>
 
 // What is left of the room behind a function, its parameters and results and what stands in it.
 fn after_function(f: &Function, room: usize) -> Option<usize>
-    ensures { MatchOption result (room < function_parts (procedure_of f.now)) (λ left. left + function_parts (procedure_of f.now) ≡ room) }
+    ensures { Leaves room (function_parts (procedure_of f.now)) result }
 {
     let room = room
         .checked_sub(1)?
@@ -41,7 +42,7 @@ fn after_function(f: &Function, room: usize) -> Option<usize>
 // What is left of the room behind a block.
 #[cycle(parts)]
 fn after_block(block: &Block, room: usize) -> Option<usize>
-    ensures { MatchOption result (room < body_parts (block_of block.now)) (λ left. left + body_parts (block_of block.now) ≡ room) }
+    ensures { Leaves room (body_parts (block_of block.now)) result }
 {
     let mut left = room;
     for c in block.commands.as_slice() {
@@ -53,7 +54,7 @@ fn after_block(block: &Block, room: usize) -> Option<usize>
 // What is left of the room behind a command and what stands in it.
 #[cycle(parts)]
 fn after_command(c: &Cmd, room: usize) -> Option<usize>
-    ensures { MatchOption result (room < body_parts (command_of c.now)) (λ left. left + body_parts (command_of c.now) ≡ room) }
+    ensures { Leaves room (body_parts (command_of c.now)) result }
 {
     let room = room.checked_sub(1)?;
     match c {
@@ -81,7 +82,7 @@ fn after_command(c: &Cmd, room: usize) -> Option<usize>
 
 // What is left of the room behind the nodes of these expressions.
 fn after_terms(es: &[Expr], room: usize) -> Option<usize>
-    ensures { let need = sum (map nodes (map term_of es.now)) in MatchOption result (room < need) (λ left. left + need ≡ room) }
+    ensures { Leaves room (sum (map nodes (map term_of es.now))) result }
 {
     let mut left = room;
     for e in es {
@@ -92,7 +93,7 @@ fn after_terms(es: &[Expr], room: usize) -> Option<usize>
 
 // What is left of the room behind the nodes of an expression.
 fn after_term(e: &Expr, room: usize) -> Option<usize>
-    ensures { MatchOption result (room < nodes (term_of e.now)) (λ left. left + nodes (term_of e.now) ≡ room) }
+    ensures { Leaves room (nodes (term_of e.now)) result }
 {
     let room = room.checked_sub(1)?;
     match e {
