@@ -1,9 +1,9 @@
 // Commands and blocks.
-ghost use Rattle.std.specs.Prelude.{◌≡◌, ◌+◌, ◌++◌, [], ◌∷◌, suc, map, codes, decimal, OnOk, All};
+ghost use Rattle.std.specs.Prelude.{suc, OnOk, All};
 ghost use Rattle.lb_syntax.specs.Names.{IsName};
-ghost use Rattle.lb_syntax.specs.Tree.{Allocates, Chooses, Repeats, term_of, command_of, block_of};
+ghost use Rattle.lb_syntax.specs.Tree.{Sets, Unsets, term_of, command_of, block_of};
 ghost use Rattle.lb_syntax.specs.WellFormed.{IsTerm, IsCommand, IsBlock};
-ghost use Rattle.lb_syntax.specs.Printing.{width_text, term_text, call_text, line, else_text, command_text};
+ghost use Rattle.lb_printing.specs.InternalPrinting.{Appends, Prints, AddsCall, AreTerms, store, allocation, choice, repetition, allocation_line, opening_line, else_block_text};
 
 use crate::lines::{add_indent, add_line};
 use crate::term::{add_expr, add_exprs};
@@ -20,7 +20,7 @@ pub fn add_block(
     depth: usize,
     block: &Block,
 ) -> Result<(), AllocError>
-    ensures printed { OnOk result (text.new.items ≡ text.old.items ++ command_text depth (block_of block.now)) }
+    ensures printed { Prints depth text.old text.new (block_of block.now) result }
     ensures well_formed { OnOk result (IsBlock (block_of block.now)) }
 {
     for c in block.commands.as_slice() {
@@ -32,7 +32,7 @@ pub fn add_block(
 // Adds a command, with so many blocks open round it.
 #[cycle(add_command)]
 fn add_command(alloc: Global, text: &mut Vec<u8>, depth: usize, c: &Cmd) -> Result<(), AllocError>
-    ensures printed { OnOk result (text.new.items ≡ text.old.items ++ command_text depth (command_of c.now)) }
+    ensures printed { Prints depth text.old text.new (command_of c.now) result }
     ensures well_formed { OnOk result (IsCommand (command_of c.now)) }
 {
     match c {
@@ -73,8 +73,8 @@ fn add_alloc(
     target: &Name,
     body: &Block,
 ) -> Result<(), AllocError>
-    ensures printed { OnOk result (text.new.items ≡ text.old.items ++ command_text depth (Allocates bytes target.now (block_of body.now))) }
-    ensures well_formed { OnOk result (IsCommand (Allocates bytes target.now (block_of body.now))) }
+    ensures printed { Prints depth text.old text.new (allocation bytes target.now body.now) result }
+    ensures well_formed { OnOk result (IsCommand (allocation bytes target.now body.now)) }
 {
     add_alloc_line(alloc, text, depth, bytes, target)?;
     add_inner(alloc, text, depth, body)?;
@@ -90,8 +90,8 @@ fn add_choice(
     yes: &Block,
     no: &Block,
 ) -> Result<(), AllocError>
-    ensures printed { OnOk result (text.new.items ≡ text.old.items ++ command_text depth (Chooses (term_of condition.now) (block_of yes.now) (block_of no.now))) }
-    ensures well_formed { OnOk result (IsCommand (Chooses (term_of condition.now) (block_of yes.now) (block_of no.now))) }
+    ensures printed { Prints depth text.old text.new (choice condition.now yes.now no.now) result }
+    ensures well_formed { OnOk result (IsCommand (choice condition.now yes.now no.now)) }
 {
     add_condition_line(alloc, text, depth, b"if ", condition)?;
     add_inner(alloc, text, depth, yes)?;
@@ -107,8 +107,8 @@ fn add_loop(
     condition: &Expr,
     body: &Block,
 ) -> Result<(), AllocError>
-    ensures printed { OnOk result (text.new.items ≡ text.old.items ++ command_text depth (Repeats (term_of condition.now) (block_of body.now))) }
-    ensures well_formed { OnOk result (IsCommand (Repeats (term_of condition.now) (block_of body.now))) }
+    ensures printed { Prints depth text.old text.new (repetition condition.now body.now) result }
+    ensures well_formed { OnOk result (IsCommand (repetition condition.now body.now)) }
 {
     add_condition_line(alloc, text, depth, b"while ", condition)?;
     add_inner(alloc, text, depth, body)?;
@@ -123,7 +123,7 @@ fn add_inner(
     depth: usize,
     block: &Block,
 ) -> Result<(), AllocError>
-    ensures printed { OnOk result (text.new.items ≡ text.old.items ++ command_text (suc depth) (block_of block.now)) }
+    ensures printed { Prints (suc depth) text.old text.new (block_of block.now) result }
     ensures well_formed { OnOk result (IsBlock (block_of block.now)) }
 {
     let inner = depth.checked_add(1).ok_or(AllocError)?;
@@ -138,7 +138,7 @@ fn add_else(
     depth: usize,
     block: &Block,
 ) -> Result<(), AllocError>
-    ensures printed { OnOk result (text.new.items ≡ text.old.items ++ else_text depth (block_of block.now) (command_text (suc depth) (block_of block.now))) }
+    ensures printed { Appends text.old text.new (else_block_text depth block.now) result }
     ensures well_formed { OnOk result (IsBlock (block_of block.now)) }
 {
     if block.commands.is_empty() {
@@ -155,7 +155,7 @@ fn add_set(
     target: &Name,
     value: &Expr,
 ) -> Result<(), AllocError>
-    ensures printed { OnOk result (text.new.items ≡ text.old.items ++ line depth (target.now ++ (codes " = " ++ (term_text (term_of value.now) ++ codes ";")))) }
+    ensures printed { Prints depth text.old text.new (Sets target.now (term_of value.now)) result }
     ensures well_formed { OnOk result (IsName target.now × IsTerm (term_of value.now)) }
 {
     add_indent(text, depth)?;
@@ -167,7 +167,7 @@ fn add_set(
 }
 
 fn add_unset(text: &mut Vec<u8>, depth: usize, target: &Name) -> Result<(), AllocError>
-    ensures printed { OnOk result (text.new.items ≡ text.old.items ++ line depth (codes "unset " ++ (target.now ++ codes ";"))) }
+    ensures printed { Prints depth text.old text.new (Unsets target.now) result }
     ensures well_formed { OnOk result (IsName target.now) }
 {
     add_indent(text, depth)?;
@@ -185,7 +185,7 @@ fn add_store(
     address: &Expr,
     value: &Expr,
 ) -> Result<(), AllocError>
-    ensures printed { OnOk result (text.new.items ≡ text.old.items ++ line depth (codes "store" ++ (width_text width ++ (codes "(" ++ (term_text (term_of address.now) ++ (codes ", " ++ (term_text (term_of value.now) ++ codes ");"))))))) }
+    ensures printed { Prints depth text.old text.new (store width address.now value.now) result }
     ensures well_formed { OnOk result (IsTerm (term_of address.now) × IsTerm (term_of value.now)) }
 {
     add_indent(text, depth)?;
@@ -204,7 +204,7 @@ fn add_alloc_line(
     bytes: u32,
     target: &Name,
 ) -> Result<(), AllocError>
-    ensures printed { OnOk result (text.new.items ≡ text.old.items ++ line depth (codes "stackalloc " ++ (decimal bytes ++ (codes " as " ++ (target.now ++ codes " {"))))) }
+    ensures printed { Appends text.old text.new (allocation_line depth bytes target.now) result }
     ensures well_formed { OnOk result (IsName target.now) }
 {
     add_indent(text, depth)?;
@@ -224,7 +224,7 @@ fn add_condition_line(
     word: &[u8],
     condition: &Expr,
 ) -> Result<(), AllocError>
-    ensures printed { OnOk result (text.new.items ≡ text.old.items ++ line depth (word.now ++ (term_text (term_of condition.now) ++ codes " {"))) }
+    ensures printed { Appends text.old text.new (opening_line depth word.now condition.now) result }
     ensures well_formed { OnOk result (IsTerm (term_of condition.now)) }
 {
     add_indent(text, depth)?;
@@ -243,8 +243,8 @@ fn add_call(
     callee: &[u8],
     arguments: &Items<Expr>,
 ) -> Result<(), AllocError>
-    ensures printed { OnOk result (text.new.items ≡ text.old.items ++ line depth (call_text targets.now callee.now (map term_of arguments.now))) }
-    ensures well_formed { OnOk result (All IsName targets.now × All IsTerm (map term_of arguments.now)) }
+    ensures printed { AddsCall depth text.old text.new targets.now callee.now arguments.now result }
+    ensures well_formed { OnOk result (All IsName targets.now × AreTerms arguments.now) }
 {
     add_indent(text, depth)?;
     add_targets(text, targets.as_slice())?;

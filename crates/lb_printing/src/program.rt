@@ -1,12 +1,12 @@
 // Functions and programs.
-ghost use Rattle.std.specs.Prelude.{◌≡◌, ◌≤◌, List, ◌++◌, map, codes, IfOk, OnOk, All};
-ghost use Rattle.lb_syntax.specs.Tree.{Procedure, procedure_of, program_of};
+ghost use Rattle.std.specs.Prelude.{◌≡◌, map, IfOk, OnOk, All};
+ghost use Rattle.lb_syntax.specs.Tree.{procedure_of, program_of};
 ghost use Rattle.lb_syntax.specs.WellFormed.{IsProcedure};
 ghost use Rattle.lb_syntax.specs.Names.{IsName};
-ghost use Rattle.lb_syntax.specs.Printing.{line, listed, results_text, procedure_text, program_text};
-ghost use Rattle.lb_syntax.specs.Brackets.{brackets, most_brackets};
+ghost use Rattle.lb_syntax.specs.Printing.{program_text};
 ghost use Rattle.lb_spelling.specs.Grammar.{IsText};
-ghost use Rattle.lb_spelling.specs.Places.{IsAccepted};
+ghost use Rattle.lb_printing.specs.Printed.{AcceptedIfShallow, IsTextOfNoOther};
+ghost use Rattle.lb_printing.specs.InternalPrinting.{Appends, head_line, function_text, functions_text};
 
 use crate::command::add_block;
 use crate::lines::add_line;
@@ -20,8 +20,8 @@ use std::alloc::{AllocError, Global};
 pub fn print_program(alloc: Global, program: &Program) -> Result<Vec<u8>, AllocError>
     ensures printed { IfOk result (λ text. text.items ≡ program_text (program_of program.now)) }
     ensures spelled { IfOk result (λ text. IsText (program_of program.now) text.items) }
-    ensures spells { IfOk result (λ text. brackets (program_of program.now) ≤ most_brackets → IsAccepted (program_of program.now) text.items) }
-    ensures only { IfOk result (λ text. (p : List Procedure) → IsText p text.items → p ≡ program_of program.now) }
+    ensures spells { IfOk result (λ text. AcceptedIfShallow (program_of program.now) text.items) }
+    ensures only { IfOk result (λ text. IsTextOfNoOther (program_of program.now) text.items) }
 {
     let mut text = Vec::new(alloc);
     add_functions(alloc, &mut text, program.functions.as_slice())?;
@@ -33,7 +33,7 @@ fn add_functions(
     text: &mut Vec<u8>,
     functions: &[Function],
 ) -> Result<(), AllocError>
-    ensures printed { OnOk result (text.new.items ≡ text.old.items ++ program_text (map procedure_of functions.now)) }
+    ensures printed { Appends text.old text.new (functions_text functions.now) result }
     ensures well_formed { OnOk result (All IsProcedure (map procedure_of functions.now)) }
 {
     for function in functions {
@@ -43,7 +43,7 @@ fn add_functions(
 }
 
 fn add_function(alloc: Global, text: &mut Vec<u8>, function: &Function) -> Result<(), AllocError>
-    ensures printed { OnOk result (text.new.items ≡ text.old.items ++ procedure_text (procedure_of function.now)) }
+    ensures printed { Appends text.old text.new (function_text function.now) result }
     ensures well_formed { OnOk result (IsProcedure (procedure_of function.now)) }
 {
     add_head(text, function)?;
@@ -53,7 +53,7 @@ fn add_function(alloc: Global, text: &mut Vec<u8>, function: &Function) -> Resul
 
 // Adds the line that begins a function.
 fn add_head(text: &mut Vec<u8>, function: &Function) -> Result<(), AllocError>
-    ensures printed { OnOk result (text.new.items ≡ text.old.items ++ line 0 (codes "fn " ++ (function.now.name ++ (codes "(" ++ (listed function.now.params ++ (codes ")" ++ (results_text function.now.results ++ codes " {"))))))) }
+    ensures printed { Appends text.old text.new (head_line function.now) result }
     ensures name { OnOk result (IsName function.now.name) }
     ensures params { OnOk result (All IsName function.now.params) }
     ensures results { OnOk result (All IsName function.now.results) }

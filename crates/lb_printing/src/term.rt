@@ -1,8 +1,9 @@
 // Expressions.
-ghost use Rattle.std.specs.Prelude.{◌≡◌, ◌++◌, map, codes, OnOk, All};
+ghost use Rattle.std.specs.Prelude.{OnOk};
 ghost use Rattle.lb_syntax.specs.Tree.{term_of};
 ghost use Rattle.lb_syntax.specs.WellFormed.{IsTerm};
-ghost use Rattle.lb_syntax.specs.Printing.{term_text, listed};
+ghost use Rattle.lb_syntax.specs.Printing.{term_text};
+ghost use Rattle.lb_printing.specs.InternalPrinting.{Appends, AreTerms, exprs_text};
 
 use crate::words::{add_access, add_name, add_number};
 use lb_spelling::sign_of;
@@ -11,7 +12,7 @@ use std::alloc::{AllocError, Global};
 
 /// Adds the text of an expression.
 pub fn add_expr(alloc: Global, text: &mut Vec<u8>, expr: &Expr) -> Result<(), AllocError>
-    ensures printed { OnOk result (text.new.items ≡ text.old.items ++ term_text (term_of expr.now)) }
+    ensures printed { Appends text.old text.new (term_text (term_of expr.now)) result }
     ensures well_formed { OnOk result (IsTerm (term_of expr.now)) }
 {
     match expr {
@@ -38,8 +39,8 @@ pub fn add_expr(alloc: Global, text: &mut Vec<u8>, expr: &Expr) -> Result<(), Al
 
 /// Adds the texts of expressions, a comma and a blank between each and the next.
 pub fn add_exprs(alloc: Global, text: &mut Vec<u8>, exprs: &[Expr]) -> Result<(), AllocError>
-    ensures printed { OnOk result (text.new.items ≡ text.old.items ++ listed (map term_text (map term_of exprs.now))) }
-    ensures well_formed { OnOk result (All IsTerm (map term_of exprs.now)) }
+    ensures printed { Appends text.old text.new (exprs_text exprs.now) result }
+    ensures well_formed { OnOk result (AreTerms exprs.now) }
 {
     let Some((first, rest)) = exprs.split_first() else {
         return Ok(());
