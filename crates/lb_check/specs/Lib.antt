@@ -4,5 +4,6 @@ pub mod Faults
 pub mod Verdict
 pub mod InternalVerdict
 pub mod InternalCallGraph
+pub mod InternalWalks
 pub mod Needed
 pub mod Laws

@@ -1,10 +1,11 @@
 // Whether a program keeps the rules.
-ghost use Rattle.std.specs.Prelude.{◌≡◌, ◌<◌, ◌^◌, map, IfOk, OnOk, IfErr};
-ghost use Rattle.lb_syntax.specs.Tree.{procedure_of, program_of};
+ghost use Rattle.std.specs.Prelude.{◌≡◌, ◌<◌, ◌^◌, IfOk, OnOk, IfErr};
+ghost use Rattle.lb_syntax.specs.Tree.{program_of};
 ghost use Rattle.lb_syntax.specs.Rules.{KeepsRules};
 ghost use Rattle.lb_check.specs.Needed.{AreNeedsOf};
 ghost use Rattle.lb_check.specs.Parts.{parts};
 ghost use Rattle.lb_check.specs.Verdict.{IsRefusal};
+ghost use Rattle.lb_check.specs.InternalWalks.{procedures_of};
 
 use crate::call_graph::{check_cycles, check_stack, graph_of};
 use crate::checked::{Checked, Needs};
@@ -29,10 +30,10 @@ pub fn check(alloc: Global, program: Program) -> Result<Checked, CheckError>
 
 // What the program of these functions needs, where it keeps every rule.
 fn check_all(alloc: Global, functions: &[Function]) -> Result<Needs, CheckError>
-    requires { parts (map procedure_of functions.now) < 2 ^ 30 }
-    ensures rules { OnOk result (KeepsRules (map procedure_of functions.now)) }
-    ensures needs { IfOk result (AreNeedsOf (map procedure_of functions.now)) }
-    ensures refused { IfErr result (IsRefusal (map procedure_of functions.now)) }
+    requires { parts (procedures_of functions.now) < 2 ^ 30 }
+    ensures rules { OnOk result (KeepsRules (procedures_of functions.now)) }
+    ensures needs { IfOk result (AreNeedsOf (procedures_of functions.now)) }
+    ensures refused { IfErr result (IsRefusal (procedures_of functions.now)) }
 {
     check_rules(alloc, &FORM_RULES, functions)?;
     let graph = graph_of(alloc, functions)?;

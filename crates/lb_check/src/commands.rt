@@ -1,10 +1,11 @@
 // The rules on commands.
-ghost use Rattle.std.specs.Prelude.{◌≡◌, List, ◌<◌, ◌^◌, map, flat_map};
-ghost use Rattle.lb_syntax.specs.Tree.{Procedure, command_of, block_of, procedure_of};
+ghost use Rattle.std.specs.Prelude.{◌≡◌, ◌<◌, ◌^◌, map};
+ghost use Rattle.lb_syntax.specs.Tree.{command_of, block_of};
 ghost use Rattle.lb_check.specs.Parts.{body_parts, parts};
-ghost use Rattle.lb_check.specs.Order.{commands, repeated};
-ghost use Rattle.lb_check.specs.Faults.{has_shape, command_faults, faults};
+ghost use Rattle.lb_check.specs.Order.{repeated};
+ghost use Rattle.lb_check.specs.Faults.{has_shape, faults};
 ghost use Rattle.lb_check.specs.InternalVerdict.{Tells};
+ghost use Rattle.lb_check.specs.InternalWalks.{procedures_of, TellsCommand, TellsCommands, TellsAlone};
 
 use crate::fault::{CheckError, CheckFault};
 use crate::lookup::{has_function, has_misfit};
@@ -19,8 +20,8 @@ pub fn check_commands(
     rule: CommandRule,
     functions: &[Function],
 ) -> Result<(), CheckError>
-    requires { parts (map procedure_of functions.now) < 2 ^ 30 }
-    ensures { Tells (faults (Rule.OfCommand rule) (map procedure_of functions.now)) result }
+    requires { parts (procedures_of functions.now) < 2 ^ 30 }
+    ensures { Tells (faults (Rule.OfCommand rule) (procedures_of functions.now)) result }
 {
     for f in functions {
         check_block(alloc, &f.body, rule, functions, &f.name)?;
@@ -38,7 +39,7 @@ fn check_block(
     function: &Name,
 ) -> Result<(), CheckError>
     requires { body_parts (block_of block.now) < 2 ^ 30 }
-    ensures { Tells (flat_map (command_faults rule (map procedure_of functions.now) function.now) (commands (block_of block.now))) result }
+    ensures { TellsCommands rule functions.now function.now (block_of block.now) result }
 {
     for c in block.commands.as_slice() {
         check_command(alloc, c, rule, functions, function)?;
@@ -56,7 +57,7 @@ fn check_command(
     function: &Name,
 ) -> Result<(), CheckError>
     requires { body_parts (command_of c.now) < 2 ^ 30 }
-    ensures { Tells (flat_map (command_faults rule (map procedure_of functions.now) function.now) (commands (command_of c.now))) result }
+    ensures { TellsCommands rule functions.now function.now (command_of c.now) result }
 {
     check_place(alloc, c, rule, functions, function)?;
     match c {
@@ -80,7 +81,7 @@ fn check_place(
     function: &Name,
 ) -> Result<(), CheckError>
     requires { body_parts (command_of c.now) < 2 ^ 30 }
-    ensures { Tells (command_faults rule (map procedure_of functions.now) function.now (command_of c.now)) result }
+    ensures { TellsCommand rule functions.now function.now (command_of c.now) result }
 {
     match rule {
         CommandRule::BlockSize => check_size(alloc, c, function),
@@ -93,7 +94,7 @@ fn check_place(
 
 // Whether a block of memory is whole words, and one at least.
 fn check_size(alloc: Global, c: &Cmd, function: &Name) -> Result<(), CheckError>
-    ensures { (p : List Procedure) → Tells (command_faults CommandRule.BlockSize p function.now (command_of c.now)) result }
+    ensures { TellsAlone CommandRule.BlockSize function.now (command_of c.now) result }
 {
     match c {
         Cmd::StackAlloc { bytes, .. } if *bytes == 0 || *bytes % 4 != 0 => {
@@ -112,7 +113,7 @@ fn check_callee(
     functions: &[Function],
     function: &Name,
 ) -> Result<(), CheckError>
-    ensures { Tells (command_faults CommandRule.Callee (map procedure_of functions.now) function.now (command_of c.now)) result }
+    ensures { TellsCommand CommandRule.Callee functions.now function.now (command_of c.now) result }
 {
     match c {
         Cmd::Call {
@@ -137,7 +138,7 @@ fn check_arity(
     functions: &[Function],
     function: &Name,
 ) -> Result<(), CheckError>
-    ensures { Tells (command_faults CommandRule.Arity (map procedure_of functions.now) function.now (command_of c.now)) result }
+    ensures { TellsCommand CommandRule.Arity functions.now function.now (command_of c.now) result }
 {
     match c {
         Cmd::Call {
@@ -158,7 +159,7 @@ fn check_arity(
 
 // Whether no target of a call comes twice.
 fn check_targets(alloc: Global, c: &Cmd, function: &Name) -> Result<(), CheckError>
-    ensures { (p : List Procedure) → Tells (command_faults CommandRule.Targets p function.now (command_of c.now)) result }
+    ensures { TellsAlone CommandRule.Targets function.now (command_of c.now) result }
 {
     match c {
         Cmd::Call { targets, .. } => check_target_names(alloc, targets.as_slice(), function),
@@ -181,7 +182,7 @@ fn check_target_names(alloc: Global, targets: &[Name], function: &Name) -> Resul
 
 // Whether an access has its action's shape.
 fn check_access(alloc: Global, c: &Cmd, function: &Name) -> Result<(), CheckError>
-    ensures { (p : List Procedure) → Tells (command_faults CommandRule.Access p function.now (command_of c.now)) result }
+    ensures { TellsAlone CommandRule.Access function.now (command_of c.now) result }
 {
     match c {
         Cmd::Interact {

@@ -3,6 +3,7 @@ ghost use Rattle.std.specs.Prelude.{◌≡◌, ◌<◌, ◌≤◌, ◌+◌, ◌*
 ghost use Rattle.lb_syntax.specs.Tree.{term_of, command_of, block_of, procedure_of};
 ghost use Rattle.lb_syntax.specs.Needs.{nodes, terms_words, words, procedure_words, depth, greatest, greatest_depth, sites};
 ghost use Rattle.lb_check.specs.Parts.{body_parts, function_parts};
+ghost use Rattle.lb_check.specs.InternalWalks.{call_words};
 
 use lb_syntax::{Block, Cmd, Expr, Function};
 
@@ -45,7 +46,7 @@ fn words_of_arguments(arguments: &[Expr]) -> u64
 // The words of a call or an access.
 fn words_of_call(targets: usize, arguments: &[Expr]) -> u64
     requires { sum (map nodes (map term_of arguments.now)) + targets < 2 ^ 30 }
-    ensures value { result ≡ 8 + terms_words (map term_of arguments.now) + 4 * length arguments.now + 4 * targets }
+    ensures value { result ≡ call_words arguments.now targets }
     ensures few { result ≤ 10 * (1 + sum (map nodes (map term_of arguments.now)) + targets) }
 {
     COMMAND_WORDS + words_of_arguments(arguments) + PASSED_WORDS * targets as u64

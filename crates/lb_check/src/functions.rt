@@ -1,10 +1,11 @@
 // The rules on functions.
-ghost use Rattle.std.specs.Prelude.{◌≡◌, ◌<◌, ◌^◌, map, IfOk};
+ghost use Rattle.std.specs.Prelude.{◌≡◌, ◌<◌, ◌^◌, map};
 ghost use Rattle.lb_syntax.specs.Tree.{procedure_of};
 ghost use Rattle.lb_check.specs.Order.{repeated};
 ghost use Rattle.lb_check.specs.Parts.{function_parts, parts};
 ghost use Rattle.lb_check.specs.Faults.{is_entry, count_faults, function_faults, faults};
 ghost use Rattle.lb_check.specs.InternalVerdict.{Tells};
+ghost use Rattle.lb_check.specs.InternalWalks.{procedures_of};
 
 use crate::fault::{CheckError, CheckFault};
 use crate::names::first_repeated;
@@ -19,8 +20,8 @@ pub fn check_functions(
     rule: FunctionRule,
     functions: &[Function],
 ) -> Result<(), CheckError>
-    requires { parts (map procedure_of functions.now) < 2 ^ 30 }
-    ensures { Tells (faults (Rule.OfFunction rule) (map procedure_of functions.now)) result }
+    requires { parts (procedures_of functions.now) < 2 ^ 30 }
+    ensures { Tells (faults (Rule.OfFunction rule) (procedures_of functions.now)) result }
 {
     for f in functions {
         check_function(alloc, rule, f)?;

@@ -1,9 +1,10 @@
 // The names in a list: which come twice, and how many there are.
-ghost use Rattle.std.specs.Prelude.{◌≡◌, ◌≤◌, [], ◌∷◌, ◌++◌, map, slice_get, length, IfOk, OnOk};
+ghost use Rattle.std.specs.Prelude.{◌≡◌, ◌≤◌, [], ◌∷◌, map, slice_get, length, IfOk};
 ghost use Rattle.lb_syntax.specs.Tree.{term_of, command_of, block_of, procedure_of};
 ghost use Rattle.lb_syntax.specs.Needs.{term_names, terms_names, command_names, procedure_names, distinct, variables};
 ghost use Rattle.lb_syntax.specs.Rules.{function_names};
 ghost use Rattle.lb_check.specs.Order.{repeated};
+ghost use Rattle.lb_check.specs.InternalWalks.{procedures_of, Appends};
 
 use lb_syntax::{Block, Cmd, Expr, Function, Name};
 use std::alloc::{AllocError, Global};
@@ -101,7 +102,7 @@ pub fn first_repeated(alloc: Global, names: &[Name]) -> Result<Option<Name>, All
 
 /// The names of these functions.
 pub fn names_of(alloc: Global, functions: &[Function]) -> Result<Vec<Name>, AllocError>
-    ensures { IfOk result (λ names. names.items ≡ function_names (map procedure_of functions.now)) }
+    ensures { IfOk result (λ names. names.items ≡ function_names (procedures_of functions.now)) }
 {
     let mut names = Vec::new(alloc);
     for f in functions {
@@ -148,7 +149,7 @@ pub fn count_variables(alloc: Global, f: &Function) -> Result<u64, AllocError>
 
 // The name, behind the others.
 fn add_name(alloc: Global, names: &mut Vec<Name>, name: &Name) -> Result<(), AllocError>
-    ensures { OnOk result (names.new.items ≡ names.old.items ++ name.now ∷ []) }
+    ensures { Appends names.old.items names.new.items (name.now ∷ []) result }
 {
     let name = name.copy(alloc)?;
     names.push(name)?;
@@ -157,7 +158,7 @@ fn add_name(alloc: Global, names: &mut Vec<Name>, name: &Name) -> Result<(), All
 
 // More names, behind the others.
 fn add_names(alloc: Global, names: &mut Vec<Name>, more: &[Name]) -> Result<(), AllocError>
-    ensures { OnOk result (names.new.items ≡ names.old.items ++ more.now) }
+    ensures { Appends names.old.items names.new.items more.now result }
 {
     for name in more {
         add_name(alloc, names, name)?;
@@ -167,7 +168,7 @@ fn add_names(alloc: Global, names: &mut Vec<Name>, more: &[Name]) -> Result<(), 
 
 // The variables that an expression names.
 fn add_expr(alloc: Global, names: &mut Vec<Name>, e: &Expr) -> Result<(), AllocError>
-    ensures { OnOk result (names.new.items ≡ names.old.items ++ term_names (term_of e.now)) }
+    ensures { Appends names.old.items names.new.items (term_names (term_of e.now)) result }
 {
     match e {
         Expr::Literal(_) => Ok(()),
@@ -182,7 +183,7 @@ fn add_expr(alloc: Global, names: &mut Vec<Name>, e: &Expr) -> Result<(), AllocE
 
 // The variables that several expressions name.
 fn add_exprs(alloc: Global, names: &mut Vec<Name>, exprs: &[Expr]) -> Result<(), AllocError>
-    ensures { OnOk result (names.new.items ≡ names.old.items ++ terms_names (map term_of exprs.now)) }
+    ensures { Appends names.old.items names.new.items (terms_names (map term_of exprs.now)) result }
 {
     for e in exprs {
         add_expr(alloc, names, e)?;
@@ -193,7 +194,7 @@ fn add_exprs(alloc: Global, names: &mut Vec<Name>, exprs: &[Expr]) -> Result<(),
 // The variables that a block names.
 #[cycle(add)]
 fn add_block(alloc: Global, names: &mut Vec<Name>, block: &Block) -> Result<(), AllocError>
-    ensures { OnOk result (names.new.items ≡ names.old.items ++ command_names (block_of block.now)) }
+    ensures { Appends names.old.items names.new.items (command_names (block_of block.now)) result }
 {
     for c in block.commands.as_slice() {
         add_command(alloc, names, c)?;
@@ -204,7 +205,7 @@ fn add_block(alloc: Global, names: &mut Vec<Name>, block: &Block) -> Result<(), 
 // The variables that a command names.
 #[cycle(add)]
 fn add_command(alloc: Global, names: &mut Vec<Name>, c: &Cmd) -> Result<(), AllocError>
-    ensures { OnOk result (names.new.items ≡ names.old.items ++ command_names (command_of c.now)) }
+    ensures { Appends names.old.items names.new.items (command_names (command_of c.now)) result }
 {
     match c {
         Cmd::Skip => Ok(()),

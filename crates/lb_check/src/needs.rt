@@ -1,8 +1,9 @@
 // What functions ask for: bytes of a frame, and words of code.
-ghost use Rattle.std.specs.Prelude.{◌≡◌, ◌<◌, ◌≤◌, ◌*◌, ◌^◌, map, IfOk};
+ghost use Rattle.std.specs.Prelude.{◌≡◌, ◌<◌, ◌≤◌, ◌*◌, ◌^◌, IfOk};
 ghost use Rattle.lb_syntax.specs.Tree.{procedure_of};
-ghost use Rattle.lb_syntax.specs.Needs.{frame_need, far_factor, procedure_words, code_need};
+ghost use Rattle.lb_syntax.specs.Needs.{frame_need, far_factor, code_need};
 ghost use Rattle.lb_check.specs.Parts.{function_parts, parts};
+ghost use Rattle.lb_check.specs.InternalWalks.{procedures_of, words_in_code};
 
 use crate::counts::{depth_of_block, memory_of_block, words_of_function};
 use crate::names::count_variables;
@@ -43,7 +44,7 @@ fn far_factor(alloc: Global, f: &Function) -> Result<u64, AllocError>
 // The words of a function in the code of a program.
 fn words_in_code(alloc: Global, f: &Function) -> Result<u64, AllocError>
     requires { function_parts (procedure_of f.now) < 2 ^ 30 }
-    ensures words { IfOk result (λ words. words ≡ far_factor (procedure_of f.now) * procedure_words (procedure_of f.now)) }
+    ensures words { IfOk result (λ words. words ≡ words_in_code (procedure_of f.now)) }
     ensures few { IfOk result (λ words. words ≤ 160 * function_parts (procedure_of f.now)) }
 {
     let factor = far_factor(alloc, f)?;
@@ -52,8 +53,8 @@ fn words_in_code(alloc: Global, f: &Function) -> Result<u64, AllocError>
 
 /// The words of code that a program of these functions asks for.
 pub fn code_need(alloc: Global, functions: &[Function]) -> Result<u64, AllocError>
-    requires { parts (map procedure_of functions.now) < 2 ^ 30 }
-    ensures { IfOk result (λ words. words ≡ code_need (map procedure_of functions.now)) }
+    requires { parts (procedures_of functions.now) < 2 ^ 30 }
+    ensures { IfOk result (λ words. words ≡ code_need (procedures_of functions.now)) }
 {
     let mut count = PROGRAM_WORDS;
     for f in functions {

@@ -1,12 +1,10 @@
 // The rules in their order.
 ghost use Rattle.std.specs.Prelude.{◌<◌, ◌^◌, map};
-ghost use Rattle.lb_syntax.specs.Tree.{procedure_of};
-ghost use Rattle.lb_syntax.specs.Rules.{function_names};
-ghost use Rattle.lb_check.specs.Order.{repeated};
 ghost use Rattle.lb_check.specs.Parts.{parts};
 ghost use Rattle.lb_check.specs.Faults.{where_true, faults};
 ghost use Rattle.lb_check.specs.Verdict.{Keeps};
 ghost use Rattle.lb_check.specs.InternalVerdict.{Tells, Settles};
+ghost use Rattle.lb_check.specs.InternalWalks.{procedures_of};
 
 use crate::commands::check_commands;
 use crate::fault::{CheckError, CheckFault};
@@ -39,8 +37,8 @@ pub const NEED_RULES: [Rule; 2] = [Rule::OfFunction(FunctionRule::FrameNeed), Ru
 
 /// Whether these functions keep these rules, in their order.
 pub fn check_rules(alloc: Global, rules: &[Rule], functions: &[Function]) -> Result<(), CheckError>
-    requires { parts (map procedure_of functions.now) < 2 ^ 30 }
-    ensures { Settles (map procedure_of functions.now) (map Keeps rules.now) result }
+    requires { parts (procedures_of functions.now) < 2 ^ 30 }
+    ensures { Settles (procedures_of functions.now) (map Keeps rules.now) result }
 {
     for rule in rules {
         check_rule(alloc, *rule, functions)?;
@@ -50,8 +48,8 @@ pub fn check_rules(alloc: Global, rules: &[Rule], functions: &[Function]) -> Res
 
 // Whether these functions keep the rule.
 fn check_rule(alloc: Global, rule: Rule, functions: &[Function]) -> Result<(), CheckError>
-    requires { parts (map procedure_of functions.now) < 2 ^ 30 }
-    ensures { Tells (faults rule (map procedure_of functions.now)) result }
+    requires { parts (procedures_of functions.now) < 2 ^ 30 }
+    ensures { Tells (faults rule (procedures_of functions.now)) result }
 {
     match rule {
         Rule::FunctionCount => {
@@ -91,7 +89,7 @@ fn refuse_if(broken: bool, fault: CheckFault) -> Result<(), CheckError>
 
 // Whether no function has the name of an earlier one.
 fn check_function_names(alloc: Global, functions: &[Function]) -> Result<(), CheckError>
-    ensures { Tells (map CheckFault.DuplicateFunction (repeated (function_names (map procedure_of functions.now)))) result }
+    ensures { Tells (faults Rule.FunctionNames (procedures_of functions.now)) result }
 {
     let names = names_of(alloc, functions)?;
     match first_repeated(alloc, names.as_slice())? {
