@@ -84,7 +84,7 @@ abbrev pub NoDigitFault : Text → SyntaxError → Type 0
 NoDigitFault [] error = (error.kind ≡ Ended) × (error.left ≡ 0)
 NoDigitFault (b ∷ s) error = (is_digit b 16 ≡ false) × (error.kind ≡ unexpected b) × (error.left ≡ length (b ∷ s))
 
--- no digit stands at the front, or behind those there stands what makes no number with them
+-- behind the mark of a hexadecimal number no digit stands, or digits and something that makes no number with them
 abbrev pub HexadecimalFault : Text → SyntaxError → Type 0
 HexadecimalFault s error = NoDigitFault s error ⊎ DigitsFault 16 s error
 
@@ -152,12 +152,14 @@ begins_some ts s = list_any (λ t. begins_with s (spelling t)) ts
 abbrev pub begins_taken : Symbol → List Token → Text → Bool
 begins_taken x ts s = list_any (λ t. is_some (next x t) && begins_with s (spelling t)) ts
 
--- the same three of tokens that the code has
+-- the first of these tokens of the code that is spelled so
 abbrev pub first_scanned : List ScannedToken → Text → Option ScannedToken
 first_scanned ts s = find (λ t. same (spelling (token_of t)) s) ts
 
+-- these bytes begin the spelling of one of these tokens of the code
 abbrev pub begins_scanned : List ScannedToken → Text → Bool
 begins_scanned ts s = list_any (λ t. begins_with s (spelling (token_of t))) ts
 
+-- these bytes begin the spelling of one of these tokens of the code that x takes
 abbrev pub begins_scanned_taken : Symbol → List ScannedToken → Text → Bool
 begins_scanned_taken x ts s = list_any (λ t. is_some (next x (token_of t)) && begins_with s (spelling (token_of t))) ts
