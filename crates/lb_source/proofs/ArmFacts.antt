@@ -4,16 +4,17 @@ use Rattle.std.specs.Prelude.{map, IfOk}
 use Rattle.std.proofs.lemmas.List.{take_all}
 use Rattle.lb_syntax.specs.Names.{Text}
 use Rattle.lb_syntax.specs.Tree.{Term, Variable, procedure_of, block_of}
-use Rattle.lb_syntax.specs.Tree.{Command, Sets, Allocates, Chooses}
+use Rattle.lb_syntax.specs.Tree.{Command, Sets, Stores, Allocates, Chooses}
 use Rattle.lb_syntax.specs.Needs.{sites}
 use Rattle.lb_syntax.specs.declared.tree.Function.{Function}
+use Rattle.lb_syntax.specs.declared.tree.Width.{Width}
 use Rattle.lb_syntax.specs.declared.layout.FrameLayout.{FrameLayout}
 use Rattle.lb_source.specs.Maps.{Variables, Memory, with_range}
 use Rattle.lb_source.specs.declared.ends.Reason.{Reason}
 use Rattle.lb_source.specs.declared.ends.SourceEnd.{SourceEnd}
-use Rattle.lb_source.specs.Run.{State, Outcome, Goes, Stops, then_do, with_value, at_zero, spend, value_in, values_in, set, set_all, allocated, released, Callable, callee, entered, returned, enter, calls, run}
+use Rattle.lb_source.specs.Run.{State, Outcome, Goes, Stops, then_do, with_value, at_zero, spend, value_in, values_in, set_all, allocated, released, Callable, callee, entered, returned, enter, calls, run}
 use Rattle.lb_source.specs.Source.{callable}
-use Rattle.lb_source.specs.InternalMachine.{state_of, outcome_of, variables_of, memory_of, Follows, FollowsEntry}
+use Rattle.lb_source.specs.InternalMachine.{state_of, outcome_of, variables_of, memory_of, Follows, FollowsEntry, FollowsReturn, FollowsSet, FollowsStore}
 use Rattle.lb_source.specs.declared.machine.Machine.{Machine}
 use Rattle.lb_source.specs.declared.machine.Flow.{Flow}
 use Rattle.lb_source.specs.declared.machine.Flow.TheVariants.{On, End}
@@ -28,8 +29,11 @@ module _ {E : Type 0} (r : Result Flow E) (p : List Callable) (os : List ℕ) (m
       turn (Ok flow) k = λ n le. same n ∙ sym k
       turn (Err e) k = tt
 
-  pub set_follows : (x : Text) (e : Term) → IfOk r (λ flow. outcome_of flow m' ≡ with_value (value_in (state_of m) e) (state_of m) (λ v. Goes (set x v (state_of m)))) → IfOk r (λ flow. Follows p os (Sets x e) m flow m')
-  set_follows x e = turned (Sets x e) (with_value (value_in (state_of m) e) (state_of m) (λ v. Goes (set x v (state_of m)))) (λ n. refl)
+  pub set_follows : (x : Text) (e : Term) → IfOk r (λ flow. FollowsSet x e m flow m') → IfOk r (λ flow. Follows p os (Sets x e) m flow m')
+  set_follows x e = turned (Sets x e) (run p 0 os (Sets x e) (state_of m)) (λ n. refl)
+
+  pub store_follows : (w : Width) (a e : Term) → IfOk r (λ flow. FollowsStore w a e m flow m') → IfOk r (λ flow. Follows p os (Stores w a e) m flow m')
+  store_follows w a e = turned (Stores w a e) (run p 0 os (Stores w a e) (state_of m)) (λ n. refl)
 
   -- one branch
   branch : (c d : Command) (qs : List ℕ) → ((n : ℕ) → run p n os c (state_of m) ≡ run p n qs d (state_of m)) → IfOk r (λ flow. Follows p qs d m flow m') → IfOk r (λ flow. Follows p os c m flow m')
@@ -91,7 +95,7 @@ module _ (p : List Callable) (name : Text) (vs : List ℕ) (xs : List Text) (f :
   pub entry_ends : (end : SourceEnd) → Follows p frame.sites (block_of f.body) m1 (End end) m2 → FollowsEntry p name vs xs m (End end) m2
   entry_ends end k = λ n le. entry n (Stops m2.trace.items end) le (λ j lj. k j (omega (arith, fuel)))
 
-  pub entry_goes : {E : Type 0} (r : Result Flow E) (m3 m4 : Machine) (caller : List Entry) → Follows p frame.sites (block_of f.body) m1 On m2 → variables_of caller ≡ variables_of m.variables.items → state_of m3 ≡ record (state_of m2) { stack = m.stack } → IfOk r (λ flow. outcome_of flow m4 ≡ with_value (values_in (state_of m3) (map Variable f.results)) (state_of m3) (λ rs. Goes (record (state_of m3) { variables = set_all xs rs (variables_of caller) }))) → IfOk r (λ flow. FollowsEntry p name vs xs m flow m4)
+  pub entry_goes : {E : Type 0} (r : Result Flow E) (m3 m4 : Machine) (caller : List Entry) → Follows p frame.sites (block_of f.body) m1 On m2 → variables_of caller ≡ variables_of m.variables.items → state_of m3 ≡ record (state_of m2) { stack = m.stack } → IfOk r (λ flow. FollowsReturn f.results xs caller m3 flow m4) → IfOk r (λ flow. FollowsEntry p name vs xs m flow m4)
   entry_goes (Err e) m3 m4 caller k own same l = tt
   entry_goes (Ok flow) m3 m4 caller k own same l = λ n le.
       entry n (Goes (state_of m2)) le (λ j lj. k j (omega (arith, fuel)))

@@ -1,14 +1,13 @@
 -- Each bound that is as great as the fuel gives the same run.
-use Rattle.std.proofs.Common.{◌≡◌, ℕ, zero, suc, ◌-◌, ◌≤◌, List, [], Option, Some, None, Result, Ok, Err, refl, sym, ap, ◌∙◌, drop, length, arith}
+use Rattle.std.proofs.Common.{◌≡◌, ℕ, zero, suc, ◌-◌, ◌≤◌, List, [], Option, Some, None, refl, sym, ap, ◌∙◌, drop, length, arith}
 use Rattle.std.specs.Prelude.{codes}
 use Rattle.lb_syntax.specs.Names.{Text}
 use Rattle.lb_syntax.specs.Tree.{Term}
 use Rattle.lb_syntax.specs.Tree.{Command, Skips, Sets, Unsets, Stores, Allocates, Chooses, Repeats, Calls, Interacts, Ends, Then}
 use Rattle.lb_syntax.specs.Needs.{sites}
-use Rattle.lb_source.specs.declared.ends.Reason.{Reason}
 use Rattle.lb_source.specs.declared.ends.SourceRun.{SourceRun}
 use Rattle.lb_source.specs.declared.ends.SourceEnd.TheVariants.{Spent}
-use Rattle.lb_source.specs.Run.{State, Outcome, Goes, Stops, then_do, with_value, at_zero, spend, value_in, values_in, block_at, allocated, released, turns, Caller, run_with, Callable, callee, entered, enter, calls, run}
+use Rattle.lb_source.specs.Run.{State, Outcome, Goes, Stops, then_do, spend, value_in, values_in, block_at, allocated, released, turns, Caller, run_with, Callable, callee, entered, enter, calls, run}
 use Rattle.lb_source.specs.Source.{callables, start, call_of, to_end, for_ever, whole}
 use Rattle.lb_source.specs.Laws.{AnyBoundServes}
 use Rattle.lb_source.proofs.OutcomeLemmas.{value_same, zero_same, spend_same}

@@ -1,9 +1,6 @@
 -- What loops of the interpreter keep.
-use Rattle.std.proofs.Common.{◌≡◌, ℕ, zero, suc, ◌+◌, ◌-◌, ◌≤◌, ◌<◌, ◌≢◌, List, ◌∷◌, drop, length, get_or, Result, Ok, Err, sym, ap, ◌∙◌, arith, add-one, drop-cons}
-use Rattle.std.specs.Prelude.{map}
-use Rattle.std.proofs.lemmas.List.{drop_all}
-use Rattle.lb_syntax.specs.declared.tree.Cmd.{Cmd}
-use Rattle.lb_syntax.specs.Tree.{Term, Command, Then, Ends, command_of, chain}
+use Rattle.std.proofs.Common.{◌≡◌, ℕ, zero, suc, ◌-◌, ◌≤◌, ◌≢◌, List, drop, length, Result, Ok, Err, sym, ap, ◌∙◌, arith}
+use Rattle.lb_syntax.specs.Tree.{Term, Command, Then, Ends}
 use Rattle.lb_syntax.specs.Needs.{sites}
 use Rattle.lb_source.specs.declared.ends.Reason.{Reason}
 use Rattle.lb_source.specs.declared.ends.SourceEnd.{SourceEnd}

@@ -1,9 +1,9 @@
 -- The stack pointer of a program that keeps the rules stays above the floor.
-use Rattle.std.proofs.Common.{◌≡◌, ℕ, zero, suc, ◌+◌, ◌-◌, ◌≤◌, nat_le, Bool, true, false, if◌then◌else◌, List, [], ◌∷◌, ◌++◌, Option, Some, None, Result, Ok, Err, map, sum, length, drop, codes, refl, sym, ap, ◌∙◌, subst, arith, le-leb, All, Contains}
+use Rattle.std.proofs.Common.{◌≡◌, ℕ, zero, suc, ◌+◌, ◌-◌, ◌≤◌, Bool, true, false, if◌then◌else◌, List, [], ◌∷◌, ◌++◌, Option, Some, None, Result, Ok, Err, map, length, drop, codes, refl, sym, ap, ◌∙◌, subst, arith, le-leb, Contains}
 use Rattle.std.specs.Str.{bytes_eq}
 use Rattle.std.proofs.lemmas.List.Elements.{Contains-append_left, Contains-append_right}
 use Rattle.std.proofs.lemmas.List.Sums.{sum_by-cons}
-use Rattle.lb_memory.specs.declared.TheConstants.{STACK_TOP, MOST_STACK}
+use Rattle.lb_memory.specs.declared.TheConstants.{STACK_TOP}
 use Rattle.lb_syntax.specs.Names.{Text}
 use Rattle.lb_syntax.proofs.DistinctLemmas.{bytes_eq-same}
 use Rattle.lb_syntax.specs.Tree.{Procedure, Term, Variable}
@@ -11,7 +11,7 @@ use Rattle.lb_syntax.specs.Tree.{Command, Skips, Sets, Unsets, Stores, Allocates
 use Rattle.lb_syntax.specs.Needs.{sites, frame_need}
 use Rattle.lb_syntax.specs.Calls.{CallSite, call_sites, callees, IsCallPath, path_need}
 use Rattle.lb_syntax.specs.Rules.{KeepsRules}
-use Rattle.lb_syntax.specs.Layouts.{IsFrameOf, AreFramesOf}
+use Rattle.lb_syntax.specs.Layouts.{AreFramesOf}
 use Rattle.lb_syntax.specs.declared.layout.FrameLayout.{FrameLayout}
 use Rattle.lb_syntax.specs.declared.tree.Action.{Action}
 use Rattle.lb_syntax.specs.declared.tree.Action.TheVariants.{Read, Write}
@@ -19,10 +19,10 @@ use Rattle.lb_source.specs.declared.ends.Reason.{Reason}
 use Rattle.lb_source.specs.declared.ends.SourceRun.{SourceRun}
 use Rattle.lb_source.specs.Maps.{Memory}
 use Rattle.lb_source.specs.Value.{byte_count}
-use Rattle.lb_source.specs.Run.{State, Outcome, Goes, Stops, then_do, with_value, at_zero, spend, ask, unless, value_in, values_in, set, block_at, allocated, released, address_fault, access, store, turns, returned, Caller, run_with, Callable, callee, entered, enter, calls, run}
+use Rattle.lb_source.specs.Run.{State, Outcome, Goes, Stops, then_do, with_value, at_zero, spend, ask, unless, value_in, values_in, block_at, allocated, released, address_fault, access, store, turns, returned, Caller, run_with, Callable, callee, entered, enter, calls, run}
 use Rattle.lb_source.specs.Source.{callable, callables, start, call_of, to_end, for_ever}
 use Rattle.lb_source.proofs.OutcomeLemmas.{value_same, zero_same, spend_same}
-use Rattle.lb_source.specs.Stack.{enter_above, calls_above, call_of_above, whole_above, stack_floor, StackStaysAbove}
+use Rattle.lb_source.specs.Stack.{enter_above, calls_above, call_of_above, stack_floor, StackStaysAbove}
 
 -- ---- what a part of a program leaves of the stack pointer
 

@@ -1,15 +1,14 @@
 // A program that runs, and what it does outside the recursion over its commands.
-ghost use Rattle.std.specs.Prelude.{◌≡◌, ◌++◌, ◌∷◌, [], map, IfOk, OnOk, Ok};
+ghost use Rattle.std.specs.Prelude.{◌≡◌, map, IfOk, OnOk};
 ghost use Rattle.lb_syntax.specs.Tree.{term_of, Variable};
-ghost use Rattle.lb_source.specs.Run.{Goes, Stops, access, address_fault, returned, set_all, store, value_in, values_in, with_value, set, unless, ask};
-ghost use Rattle.lb_source.specs.Value.{byte_count, values};
+ghost use Rattle.lb_source.specs.Run.{address_fault, value_in, values_in};
 ghost use Rattle.lb_source.specs.Source.{start};
-ghost use Rattle.lb_source.specs.InternalMachine.{memory_of, outcome_of, state_of, variables_of};
+ghost use Rattle.lb_source.specs.InternalMachine.{FollowsAccess, FollowsInteract, FollowsRead, FollowsReturn, FollowsSet, FollowsStore, FollowsStoreValue, FollowsUnset, FollowsWrite, PutsAll, state_of};
 
 use crate::ends::{Reason, SourceEnd};
 use crate::memory::Bytes;
 use crate::value::{value_of, values_of};
-use crate::variables::{Entry, assign, find};
+use crate::variables::{Entry, assign, find, unset};
 use lb_memory::{STACK_TOP, is_device_address};
 use lb_syntax::{Action, Expr, Name, Width};
 use lb_trace::Event;
@@ -79,7 +78,8 @@ pub fn values(
 
 /// Sets a variable to the value of an expression.
 pub fn set_to(m: &mut Machine, alloc: Global, target: &Name, e: &Expr) -> Result<Flow, AllocError>
-    ensures follows { IfOk result (λ flow. outcome_of flow m.new ≡ with_value (value_in (state_of m.old) (term_of e.now)) (state_of m.old) (λ v. Goes (set target.now v (state_of m.old)))) }
+    ensures follows { IfOk result (λ flow. FollowsSet target.now (term_of e.now)
+        m.old flow m.new) }
     ensures fuel { m.new.fuel ≡ m.old.fuel }
     ensures stack { m.new.stack ≡ m.old.stack }
 {
@@ -92,9 +92,19 @@ pub fn set_to(m: &mut Machine, alloc: Global, target: &Name, e: &Expr) -> Result
     }
 }
 
+/// Removes a variable, which may be unset already.
+pub fn remove(m: &mut Machine, target: &Name) -> Flow
+    ensures follows { FollowsUnset target.now m.old result m.new }
+    ensures fuel { m.new.fuel ≡ m.old.fuel }
+    ensures stack { m.new.stack ≡ m.old.stack }
+{
+    unset(&mut m.variables, target);
+    Flow::On
+}
+
 /// Writes the low bytes of a value.
 pub fn store(m: &mut Machine, width: Width, address: &Expr, e: &Expr) -> Flow
-    ensures follows { outcome_of result m.new ≡ with_value (value_in (state_of m.old) (term_of address.now)) (state_of m.old) (λ p. with_value (value_in (state_of m.old) (term_of e.now)) (state_of m.old) (λ v. with_value (store (byte_count width) p v (memory_of m.old.bytes)) (state_of m.old) (λ memory. Goes (record (state_of m.old) { memory = memory })))) }
+    ensures follows { FollowsStore width (term_of address.now) (term_of e.now) m.old result m.new }
     ensures fuel { m.new.fuel ≡ m.old.fuel }
     ensures stack { m.new.stack ≡ m.old.stack }
 {
@@ -108,7 +118,7 @@ pub fn store(m: &mut Machine, width: Width, address: &Expr, e: &Expr) -> Flow
 }
 
 fn store_value(m: &mut Machine, width: Width, address: u32, v: u32) -> Flow
-    ensures follows { outcome_of result m.new ≡ with_value (store (byte_count width) address v (memory_of m.old.bytes)) (state_of m.old) (λ memory. Goes (record (state_of m.old) { memory = memory })) }
+    ensures follows { FollowsStoreValue width address v m.old result m.new }
     ensures fuel { m.new.fuel ≡ m.old.fuel }
     ensures stack { m.new.stack ≡ m.old.stack }
 {
@@ -139,7 +149,8 @@ pub fn interact(
     action: Action,
     arguments: &[Expr],
 ) -> Result<Flow, AllocError>
-    ensures follows { IfOk result (λ flow. outcome_of flow m.new ≡ with_value (values_in (state_of m.old) (map term_of arguments.now)) (state_of m.old) (λ vs. access action targets.now vs (state_of m.old))) }
+    ensures follows { IfOk result (λ flow. FollowsInteract action targets.now
+        (map term_of arguments.now) m.old flow m.new) }
     ensures fuel { m.new.fuel ≡ m.old.fuel }
     ensures stack { m.new.stack ≡ m.old.stack }
 {
@@ -156,7 +167,8 @@ fn access(
     action: Action,
     vs: &[u32],
 ) -> Result<Flow, AllocError>
-    ensures follows { IfOk result (λ flow. outcome_of flow m.new ≡ access action targets.now vs.now (state_of m.old)) }
+    ensures follows { IfOk result (λ flow. FollowsAccess action targets.now vs.now
+        m.old flow m.new) }
     ensures fuel { m.new.fuel ≡ m.old.fuel }
     ensures stack { m.new.stack ≡ m.old.stack }
 {
@@ -179,7 +191,7 @@ fn access(
 }
 
 fn read(m: &mut Machine, alloc: Global, target: &Name, address: u32) -> Result<Flow, AllocError>
-    ensures follows { IfOk result (λ flow. outcome_of flow m.new ≡ unless (address_fault address) (state_of m.old) (ask (state_of m.old).replies address (state_of m.old) (λ v t. Goes (set target.now v t)))) }
+    ensures follows { IfOk result (λ flow. FollowsRead target.now address m.old flow m.new) }
     ensures fuel { m.new.fuel ≡ m.old.fuel }
     ensures stack { m.new.stack ≡ m.old.stack }
 {
@@ -200,7 +212,7 @@ fn read(m: &mut Machine, alloc: Global, target: &Name, address: u32) -> Result<F
 }
 
 fn write(m: &mut Machine, address: u32, value: u32) -> Result<Flow, AllocError>
-    ensures follows { IfOk result (λ flow. outcome_of flow m.new ≡ unless (address_fault address) (state_of m.old) (Goes (record (state_of m.old) { trace = m.old.trace.items ++ Event.St address value ∷ [] }))) }
+    ensures follows { IfOk result (λ flow. FollowsWrite address value m.old flow m.new) }
     ensures fuel { m.new.fuel ≡ m.old.fuel }
     ensures stack { m.new.stack ≡ m.old.stack }
 {
@@ -221,7 +233,7 @@ pub fn assign_all(
     names: &[Name],
     vs: &[u32],
 ) -> Result<(), AllocError>
-    ensures { OnOk result (variables_of entries.new.items ≡ set_all names.now vs.now (variables_of entries.old.items)) }
+    ensures { OnOk result (PutsAll names.now vs.now entries.old.items entries.new.items) }
 {
     for (i, name) in names.iter().enumerate() {
         let Some(v) = vs.get(i) else {
@@ -258,7 +270,8 @@ pub fn return_to(
     targets: &[Name],
     caller: Vec<Entry>,
 ) -> Result<Flow, AllocError>
-    ensures follows { IfOk result (λ flow. outcome_of flow m.new ≡ with_value (values_in (state_of m.old) (map Variable results.now)) (state_of m.old) (λ rs. Goes (record (state_of m.old) { variables = set_all targets.now rs (variables_of caller.items) }))) }
+    ensures follows { IfOk result (λ flow. FollowsReturn results.now targets.now caller.items
+        m.old flow m.new) }
     ensures fuel { m.new.fuel ≡ m.old.fuel }
     ensures stack { m.new.stack ≡ m.old.stack }
 {

@@ -1,9 +1,8 @@
 // The bytes that a running program owns.
-ghost use Rattle.std.specs.Prelude.{◌≡◌, ◌+◌, ◌<◌, ◌≤◌, ◌^◌, IfOk, length, replicate, slice_get, Option, Some, None};
-ghost use Rattle.lb_source.specs.Maps.{with_range, nothing_owned};
+ghost use Rattle.std.specs.Prelude.{◌≡◌, ◌+◌, ◌<◌, ◌≤◌, ◌^◌, IfOk, length, replicate, slice_get};
+ghost use Rattle.lb_source.specs.Maps.{nothing_owned};
 ghost use Rattle.lb_source.specs.Value.{load, byte_count};
-ghost use Rattle.lb_source.specs.Run.{store};
-ghost use Rattle.lb_source.specs.InternalMachine.{memory_of, cell_of, stored};
+ghost use Rattle.lb_source.specs.InternalMachine.{Fills, Writes, memory_of};
 
 use crate::ends::Reason;
 use lb_memory::STACK_TOP;
@@ -91,7 +90,7 @@ impl Bytes {
 
     /// Writes the low byte of a value at an address, which must be owned.
     fn store_byte(&mut self, address: u32, value: u32) -> Result<(), Reason>
-        ensures { stored result self.new ≡ store 1 address value (memory_of self.old) }
+        ensures { Writes 1 address value self.old result self.new }
     {
         match self.cell(address) {
             None | Some(Cell::Absent) => Err(Reason::NotOwned),
@@ -104,7 +103,7 @@ impl Bytes {
 
     /// Writes the low bytes of a value from an address on, the least significant first.
     pub fn store(&mut self, width: Width, address: u32, value: u32) -> Result<(), Reason>
-        ensures { stored result self.new ≡ store (byte_count width) address value (memory_of self.old) }
+        ensures { Writes (byte_count width) address value self.old result self.new }
     {
         self.store_byte(address, value)?;
         match width {
@@ -121,7 +120,7 @@ impl Bytes {
     /// Makes n addresses from `base` on this.
     pub fn fill(&mut self, base: u32, n: u32, cell: Cell)
         requires { base + n ≤ STACK_TOP }
-        ensures { memory_of self.new ≡ with_range base n (cell_of (Some cell)) (memory_of self.old) }
+        ensures { Fills base n cell self.old self.new }
     {
         fill_cells(&mut self.cells, base as usize, n as usize, cell);
     }
@@ -135,7 +134,7 @@ fn absent_cells(alloc: Global, n: usize) -> Result<Vec<Cell>, AllocError>
 
 fn fill_cells(cells: &mut [Cell], base: usize, n: usize, cell: Cell)
     requires { base + n ≤ length cells.old }
-    ensures { memory_of cells.new ≡ with_range base n (cell_of (Some cell)) (memory_of cells.old) }
+    ensures { Fills base n cell cells.old cells.new }
 {
     for i in 0..n {
         cells[base + i] = cell;

@@ -1,8 +1,8 @@
 // The value of an expression.
 ghost use Rattle.std.specs.Prelude.{◌≡◌, map, IfOk};
 ghost use Rattle.lb_syntax.specs.Tree.{term_of};
-ghost use Rattle.lb_source.specs.Value.{operate, value, values};
-ghost use Rattle.lb_source.specs.InternalMachine.{variables_of, memory_of};
+ghost use Rattle.lb_source.specs.Value.{operate, value};
+ghost use Rattle.lb_source.specs.InternalMachine.{AreValues, variables_of, memory_of};
 
 use crate::ends::Reason;
 use crate::memory::Bytes;
@@ -60,7 +60,7 @@ pub fn values_of(
     bytes: &Bytes,
     es: &[Expr],
 ) -> Result<Result<Items<u32>, Reason>, AllocError>
-    ensures { IfOk result (λ vs. vs ≡ values (variables_of entries.now) (memory_of bytes.now) (map term_of es.now)) }
+    ensures { IfOk result (λ vs. AreValues entries.now bytes.now (map term_of es.now) vs) }
 {
     let mut values = Items::new(alloc);
     for e in es {

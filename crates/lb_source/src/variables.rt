@@ -1,7 +1,6 @@
 // The variables of a function that runs.
-ghost use Rattle.std.specs.Prelude.{◌≡◌, OnOk, Option, Some, None};
-ghost use Rattle.lb_source.specs.Maps.{put};
-ghost use Rattle.lb_source.specs.InternalMachine.{variables_of, without};
+ghost use Rattle.std.specs.Prelude.{◌≡◌, OnOk, Some, None};
+ghost use Rattle.lb_source.specs.InternalMachine.{Puts, variables_of, without};
 
 use lb_syntax::Name;
 use std::alloc::{AllocError, Global};
@@ -28,7 +27,7 @@ pub fn find(entries: &[Entry], name: &Name) -> Option<u32>
 /// Unsets a variable, which may be unset already.
 pub fn unset(entries: &mut Vec<Entry>, name: &Name)
     ensures entries { entries.new.items ≡ without name.now entries.old.items }
-    ensures map { variables_of entries.new.items ≡ put name.now None (variables_of entries.old.items) }
+    ensures map { Puts name.now None entries.old.items entries.new.items }
 {
     entries.retain(|entry| entry.name != *name);
 }
@@ -40,7 +39,7 @@ pub fn assign(
     name: &Name,
     value: u32,
 ) -> Result<(), AllocError>
-    ensures { OnOk result (variables_of entries.new.items ≡ put name.now (Some value) (variables_of entries.old.items)) }
+    ensures { OnOk result (Puts name.now (Some value) entries.old.items entries.new.items) }
 {
     let name_copy = name.copy(alloc)?;
     unset(entries, name);
