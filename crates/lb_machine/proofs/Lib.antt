@@ -1,5 +1,6 @@
 pub mod BoardLemmas
 pub mod CoreLemmas
+pub mod EnabledLemmas
 pub mod LogLemmas
 pub mod MachineLemmas
 pub mod RowLemmas

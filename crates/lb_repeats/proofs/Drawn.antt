@@ -1,39 +1,22 @@
 -- A seed decides all that a single worker adds.
-use Rattle.std.proofs.Common.{◌≡◌, ◌<◌, ◌≤◌, ◌⊎◌, inl, inr, ℕ, zero, suc, true, is_none, List, [], ◌∷◌, ◌++◌, length, take, Option, Some, None, refl, sym, ap, ap₂, ◌∙◌, subst, ⊎_elim, arith}
+use Rattle.std.proofs.Common.{◌≡◌, ◌<◌, ◌≤◌, ◌⊎◌, inl, inr, ℕ, zero, suc, true, List, [], ◌∷◌, ◌++◌, length, take, Option, Some, None, refl, sym, ap, ap₂, ◌∙◌, subst, ⊎_elim, arith}
 use Rattle.std.specs.Prelude.{slice_get, All}
-use Rattle.std.proofs.lemmas.Bool.{and_parts}
 use Rattle.std.proofs.lemmas.List.{take_all}
 use Rattle.std.proofs.lemmas.List.Elements.{All-head, All-tail}
 use Rattle.lb_trace.specs.declared.Entry.{Entry}
 use Rattle.lb_trace.specs.declared.Event.{Event}
 use Rattle.lb_trace.specs.declared.Kind.{Kind}
-use Rattle.lb_trace.specs.declared.Kind.TheVariants.{Fetch, Decode, Execute, Ram, Mmio, Writeback, Boot, Shift, Arrive}
 use Rattle.lb_rv.specs.declared.instr.Cause.{Cause}
 use Rattle.lb_draws.specs.Draws.{draw}
-use Rattle.lb_core.specs.Rows.{guard}
-use Rattle.lb_board.specs.Rows.{by_bytes}
-use Rattle.lb_board.specs.Rows.{is_enabled as is_enabled_on_board}
 use Rattle.lb_machine.specs.State.{Job, MachineState, MachineView}
-use Rattle.lb_machine.specs.Rows.{is_enabled}
 use Rattle.lb_machine.specs.Logs.{may_fire, replay}
 use Rattle.lb_machine.specs.Machines.{IsBooted, IsReplay, MachineContent}
 use Rattle.lb_machine.specs.Refusals.{FixedContent, halted_after}
+use Rattle.lb_machine.proofs.EnabledLemmas.{enabled_goes}
 use Rattle.lb_crew.specs.Crews.{Finishes}
 use Rattle.lb_crew.specs.Drawn.{AreDrawn, HasEnded, IsDrawn, IsDrawnUntil, IsFirstEnabled, kind_behind, kind_of}
 use Rattle.lb_crew.specs.InternalDraws.{HasEnough}
 use Rattle.lb_repeats.proofs.Places.{same_place}
-
--- where a kind may be fired the core isn't halted
-enabled_goes : (s : MachineState) (kind : Kind) → is_enabled by_bytes s kind ≡ true → is_none s.core.halted ≡ true
-enabled_goes s Fetch on = (and_parts (is_none s.core.halted) (guard s.core Fetch) on).0
-enabled_goes s Decode on = (and_parts (is_none s.core.halted) (guard s.core Decode) on).0
-enabled_goes s Execute on = (and_parts (is_none s.core.halted) (guard s.core Execute) on).0
-enabled_goes s Ram on = (and_parts (is_none s.core.halted) (guard s.core Ram) on).0
-enabled_goes s Mmio on = (and_parts (is_none s.core.halted) (guard s.core Mmio) on).0
-enabled_goes s Writeback on = (and_parts (is_none s.core.halted) (guard s.core Writeback) on).0
-enabled_goes s Boot on = (and_parts (is_none s.core.halted) (is_enabled_on_board by_bytes Boot s.board) on).0
-enabled_goes s Shift on = (and_parts (is_none s.core.halted) (is_enabled_on_board by_bytes Shift s.board) on).0
-enabled_goes s Arrive on = (and_parts (is_none s.core.halted) (is_enabled_on_board by_bytes Arrive s.board) on).0
 
 -- ---- the first kind that may be fired
 
