@@ -9,4 +9,4 @@ mod workers;
 
 pub use gate::Gate;
 pub use tape::{NotFired, Tape};
-pub use workers::{Pair, Tries, Worker, are_places, fetch_often, fill, meet_holder, open_pair};
+pub use workers::{Worker, are_places, fill, meet_holder};

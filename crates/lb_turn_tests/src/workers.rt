@@ -1,72 +1,15 @@
 // Threads that act by their seats.
-ghost use Rattle.std.specs.Prelude.{IfOk};
 ghost use Rattle.lb_turn.specs.Seats.{IsOf};
 
 use crate::gate::Gate;
-use crate::tape::{NotFired, Tape};
+use crate::tape::Tape;
 use lb_trace::{Entry, Kind};
 use lb_turn::{Seat, Turn, TurnFault};
-use std::alloc::{AllocError, Global};
 use std::thread;
 use std::thread::Threads;
 
 /// How often a worker tries.
 const MOST_TRIES: u64 = 1_000_000_000;
-
-/// A turn and its two seats.
-pub struct Pair {
-    pub turn: Turn<Tape>,
-    pub first: Seat<Tape>,
-    pub second: Seat<Tape>,
-}
-
-/// Opens a turn of two seats. Fails only for want of memory.
-pub fn open_pair(alloc: Global, tape: Tape) -> Result<Pair, AllocError>
-    ensures { IfOk result (λ p. IsOf p.turn p.first × IsOf p.turn p.second) }
-{
-    let (turn, mut seats) = Turn::open(alloc, tape, 2)?;
-    let second = seats.remove(1);
-    let first = seats.remove(0);
-    Ok(Pair {
-        turn,
-        first,
-        second,
-    })
-}
-
-/// How often a seat fired, found the machine full, and was told anything else.
-#[derive(Clone, Copy, Debug, PartialEq, Eq)]
-pub struct Tries {
-    pub fired: u32,
-    pub full: u32,
-    pub other: u32,
-}
-
-/// Tries to fetch so often. The first entry is to have the place 0; from then on the machine is to be
-/// full with 1.
-pub fn fetch_often(turn: &Turn<Tape>, seat: &mut Seat<Tape>, times: u32) -> Tries
-    requires { IsOf turn.now seat.old }
-    ensures { IsOf turn.now seat.new }
-{
-    let mut tries = Tries {
-        fired: 0,
-        full: 0,
-        other: 0,
-    };
-    for _ in 0..times {
-        match turn.try_fire(seat, Kind::Fetch) {
-            Ok(0) => tries.fired = tries.fired.saturating_add(1),
-            Err(
-                TurnFault::NotFired {
-                    seen: 1,
-                    why: NotFired::Full,
-                },
-            ) => tries.full = tries.full.saturating_add(1),
-            _ => tries.other = tries.other.saturating_add(1),
-        }
-    }
-    tries
-}
 
 /// A seat, and the places of its entries.
 #[derive(Drop)]
