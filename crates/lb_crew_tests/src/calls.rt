@@ -6,6 +6,7 @@ use crate::stop::Stop;
 use lb_crew::{race, serial, serial_until};
 use lb_machine::{Machine, replay};
 use lb_ports::Gate;
+use lb_trace::Entry;
 use std::alloc::{AllocError, Global};
 use std::sync::Wait;
 use std::thread::Threads;
@@ -90,14 +91,9 @@ pub fn has_entry_of(machine: &Machine, worker: u8) -> bool {
     machine.log().iter().any(|entry| entry.worker == worker)
 }
 
-/// Whether the two have the same log.
-pub fn same_log(a: &Machine, b: &Machine) -> bool {
-    a.log() == b.log()
-}
-
-/// Whether the log of the first is shorter than that of the second, and the second begins with it.
-pub fn is_shorter(a: &Machine, b: &Machine) -> bool {
-    a.log().len() < b.log().len() && b.log().starts_with(a.log())
+/// Its log alone.
+pub fn log_of(machine: Machine) -> Vec<Entry> {
+    machine.into_parts().log
 }
 
 /// How many accesses it has made.

@@ -6,8 +6,6 @@ mod calls;
 #[cfg(test)]
 mod gates;
 #[cfg(test)]
-mod seats;
-#[cfg(test)]
 mod stop;
 #[cfg(test)]
 mod tests;
