@@ -5,6 +5,7 @@ ghost use Rattle.lb_board.specs.Script.{IsScript};
 use crate::stop::Stop;
 use lb_board::Board;
 use lb_trace::{Frame, Kind};
+use lb_trace_testkit::kinds::KINDS;
 use std::alloc::Global;
 
 const TXDATA: u32 = 0x1002_4048;
@@ -86,19 +87,9 @@ fn act(alloc: Global, board: &mut Board, kind: Kind) -> Result<String, Stop> {
 // The letters of the actions that are allowed.
 fn allowed(alloc: Global, board: &Board) -> Result<String, Stop> {
     let mut letters = String::new(alloc);
-    for (letter, kind) in [
-        ("F", Kind::Fetch),
-        ("D", Kind::Decode),
-        ("X", Kind::Execute),
-        ("R", Kind::Ram),
-        ("M", Kind::Mmio),
-        ("W", Kind::Writeback),
-        ("B", Kind::Boot),
-        ("S", Kind::Shift),
-        ("A", Kind::Arrive),
-    ] {
+    for (letter, kind) in KINDS {
         if board.enabled(kind) {
-            letters.push_str(letter)?;
+            letters.push(letter)?;
         }
     }
     Ok(letters)

@@ -4,6 +4,4 @@
 #[cfg(test)]
 mod runs;
 #[cfg(test)]
-mod script;
-#[cfg(test)]
 mod text;

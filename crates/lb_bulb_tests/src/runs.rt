@@ -1,10 +1,10 @@
 // What the supplied program does for the replies of a board.
-use crate::script::Script;
 use lb_bulb::program;
 use lb_grammar::{Verdict, judge};
 use lb_handmade::{NotChecked, checked, packed_layout};
 use lb_source::{SourceEnd, SourceRun, interpret};
 use lb_trace::replies;
+use lb_trace_testkit::lamp::{Script, Unread};
 use std::alloc::{AllocError, Global};
 use std::process::Abort;
 use std::test::Fail;
@@ -19,7 +19,7 @@ fn run(alloc: Global, fuel: u64, replies: &[u32]) -> Result<SourceRun, NotChecke
 // Whether the program, given the replies of the line's trace, does that trace, and then begins the next poll, in
 // which no reply is left; and whether `judge` counts as many rounds as the line says.
 fn does(alloc: Global, line: &str) -> Result<bool, NotChecked> {
-    let mut script = Script::from_text(alloc, line)?;
+    let mut script = Script::from_text(alloc, line, Unread::Odd)?;
     let given = replies(alloc, &script.events)?;
     script.begin_poll()?;
     let run = run(alloc, 1_000_000, &given)?;

@@ -1,59 +1,15 @@
 // Fires the schedules that are held in texts.
 use crate::{causes, paths, schedules};
 use lb_core::{Core, Demand};
-use lb_trace::{Event, Kind, append_trace, hex_digits};
+use lb_trace::{Event, Kind, append_trace};
+use lb_trace_testkit::kinds::kind_of;
+use lb_trace_testkit::text::{add_number, first_line, in_one_line, numbers};
 use std::alloc::{AllocError, Global};
 use std::process::Abort;
 use std::test::Fail;
 
 // A reply that no access takes but a read.
 const NO_REPLY: u32 = 0x5A5A5A5A;
-
-// The kind of a letter.
-fn kind_of(letter: u8) -> Option<Kind> {
-    match letter.to_ascii_uppercase() {
-        b'F' => Some(Kind::Fetch),
-        b'D' => Some(Kind::Decode),
-        b'X' => Some(Kind::Execute),
-        b'R' => Some(Kind::Ram),
-        b'M' => Some(Kind::Mmio),
-        b'W' => Some(Kind::Writeback),
-        b'B' => Some(Kind::Boot),
-        b'S' => Some(Kind::Shift),
-        b'A' => Some(Kind::Arrive),
-        _ => None,
-    }
-}
-
-// The number of hexadecimal digits in lower case.
-fn number(text: &str) -> u32 {
-    let mut n = 0u32;
-    for b in text.bytes() {
-        let digit = if b.is_ascii_digit() {
-            b.wrapping_sub(b'0')
-        } else {
-            b.wrapping_sub(b'a').wrapping_add(10)
-        };
-        n = n.wrapping_mul(16).wrapping_add(u32::from(digit));
-    }
-    n
-}
-
-// The numbers of a line.
-fn numbers(alloc: Global, line: &str) -> Result<Vec<u32>, AllocError> {
-    let mut found = Vec::new(alloc);
-    for text in line.split_whitespace() {
-        found.push(number(text))?;
-    }
-    Ok(found)
-}
-
-// Adds a word and a number.
-fn add(told: &mut Vec<u8>, text: &[u8], n: u32) -> Result<(), AllocError> {
-    told.extend_from_slice(text)?;
-    told.extend_from_slice(&hex_digits(n))?;
-    Ok(())
-}
 
 // Fires the kinds of a line, asserts of each whether it is enabled, and adds the accesses.
 fn fire_all(
@@ -64,7 +20,7 @@ fn fire_all(
     replies: &[u32],
 ) -> Result<(), AllocError> {
     let mut read = 0usize;
-    for letter in kinds.bytes() {
+    for letter in kinds.chars() {
         let Some(kind) = kind_of(letter) else {
             continue;
         };
@@ -90,10 +46,10 @@ fn fire_all(
 fn add_demand(told: &mut Vec<u8>, core: &Core) -> Result<(), AllocError> {
     match core.demand() {
         None => return Ok(()),
-        Some(Demand::Read { addr }) => add(told, b"wants read ", addr)?,
+        Some(Demand::Read { addr }) => add_number(told, b"wants read ", addr)?,
         Some(Demand::Write { addr, value }) => {
-            add(told, b"wants write ", addr)?;
-            add(told, b" ", value)?;
+            add_number(told, b"wants write ", addr)?;
+            add_number(told, b" ", value)?;
         }
     }
     told.push(b'\n')?;
@@ -103,7 +59,7 @@ fn add_demand(told: &mut Vec<u8>, core: &Core) -> Result<(), AllocError> {
 // Adds how far the core is, why it is halted, and the registers that aren't 0.
 fn add_state(alloc: Global, told: &mut Vec<u8>, core: &Core) -> Result<(), AllocError> {
     let counts = format!(in alloc; "done {} retired {} fetch ", core.done(), core.retired())?;
-    add(told, counts.as_bytes(), core.fetch_pc())?;
+    add_number(told, counts.as_bytes(), core.fetch_pc())?;
     if let Some(cause) = core.halted() {
         let text = format!(in alloc; "\nhalted {cause:?}")?;
         told.extend_from_slice(text.as_bytes())?;
@@ -111,25 +67,10 @@ fn add_state(alloc: Global, told: &mut Vec<u8>, core: &Core) -> Result<(), Alloc
     for n in 0..32u8 {
         if core.register(n) != 0 {
             let text = format!(in alloc; "\nx{n} ")?;
-            add(told, text.as_bytes(), core.register(n))?;
+            add_number(told, text.as_bytes(), core.register(n))?;
         }
     }
     Ok(())
-}
-
-// The first line of a text, and the rest.
-fn line(text: &str) -> (&str, &str) {
-    text.split_once('\n').unwrap_or((text, ""))
-}
-
-// Lines with commas between them.
-fn in_one_line(mut text: Vec<u8>) -> Vec<u8> {
-    for b in &mut text {
-        if *b == b'\n' {
-            *b = b',';
-        }
-    }
-    text
 }
 
 // What is told of a code from address 0 on under a schedule, with these replies; nothing where the code is too long.
@@ -156,11 +97,11 @@ fn tell(
 fn expect(rt: &impl Abort, alloc: Global, programs: &str, count: u32) -> Result<(), AllocError> {
     let mut left = programs;
     for _ in 0..count {
-        let (what, rest) = line(left);
-        let (words, rest) = line(rest);
-        let (kinds, rest) = line(rest);
-        let (replies, rest) = line(rest);
-        let (want, rest) = line(rest);
+        let (what, rest) = first_line(left);
+        let (words, rest) = first_line(rest);
+        let (kinds, rest) = first_line(rest);
+        let (replies, rest) = first_line(rest);
+        let (want, rest) = first_line(rest);
         let code = numbers(alloc, words)?;
         let replies = numbers(alloc, replies)?;
         let told = tell(rt, alloc, code.as_slice(), kinds, replies.as_slice())?;

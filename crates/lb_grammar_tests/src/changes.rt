@@ -1,6 +1,6 @@
 // A good trace of three rounds: its prefixes, and what becomes of it when an event is changed.
 use crate::plain::plain_judge;
-use crate::script::Script;
+use crate::rows::{script, verdict};
 use lb_grammar::{Verdict, judge};
 use lb_trace::Event;
 use std::test::Fail;
@@ -32,22 +32,22 @@ fn changed(event: Event, bit: u32) -> Event {
 #[test]
 fn prefixes_and_changes(rt: HostRuntime) -> Result<(), Fail> {
     let mut events = Vec::new(rt.alloc());
-    let good = Script::from_text(rt.alloc(), "N3 Y1 B Y0 E G2b K1 H5")?;
+    let good = script(rt.alloc(), "N3 Y1 B Y0 E G2b K1 H5")?;
     for event in &good.events {
         assert!(&rt; matches!(judge(&events), Verdict::Prefix { .. }));
         assert_eq!(&rt; judge(&events), plain_judge(&events));
         events.push(*event)?;
     }
-    assert_eq!(&rt; judge(&events), good.verdict());
+    assert_eq!(&rt; judge(&events), verdict(&good));
     assert_eq!(&rt; judge(&events), plain_judge(&events));
     let mut bit = 0u32;
     for (i, event) in good.events.iter().enumerate() {
         for _ in 0..8 {
             bit = bit.wrapping_add(8) % 65;
             set(&mut events, i, changed(*event, bit));
-            let verdict = judge(&events);
-            assert_eq!(&rt; verdict, plain_judge(&events), "event {i}, bit {bit}");
-            if let Verdict::Leaves { at } = verdict {
+            let said = judge(&events);
+            assert_eq!(&rt; said, plain_judge(&events), "event {i}, bit {bit}");
+            if let Verdict::Leaves { at } = said {
                 assert!(&rt; at >= i as u64);
             }
         }

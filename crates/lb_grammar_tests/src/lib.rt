@@ -9,5 +9,3 @@ mod packets;
 mod plain;
 #[cfg(test)]
 mod rows;
-#[cfg(test)]
-mod script;

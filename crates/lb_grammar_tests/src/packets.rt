@@ -1,7 +1,7 @@
 // Packets that count and packets that don't.
 use crate::rows::expect_lines;
-use crate::script::packet_bytes;
 use lb_grammar::command_of_packet;
+use lb_trace_testkit::lamp::packet_bytes;
 use std::test::Fail;
 
 #[test]

@@ -1,15 +1,30 @@
 // Worked traces.
-use crate::script::Script;
-use lb_grammar::judge;
+use lb_grammar::{Verdict, judge};
+use lb_trace_testkit::lamp::{Script, Unread};
 use std::alloc::{AllocError, Global};
 use std::process::Abort;
 use std::test::Fail;
 
+/// The trace of a text.
+pub fn script(alloc: Global, text: &str) -> Result<Script, AllocError> {
+    Script::from_text(alloc, text, Unread::Plain)
+}
+
+/// What is to be said of the trace.
+pub fn verdict(script: &Script) -> Verdict {
+    match script.leaves {
+        Some(at) => Verdict::Leaves { at },
+        None => Verdict::Prefix {
+            rounds: script.rounds,
+        },
+    }
+}
+
 /// Asserts what is said of each line's trace.
 pub fn expect_lines(rt: &impl Abort, alloc: Global, text: &str) -> Result<(), AllocError> {
     for line in text.lines() {
-        let script = Script::from_text(alloc, line)?;
-        assert_eq!(rt; judge(&script.events), script.verdict(), "of {line}");
+        let script = script(alloc, line)?;
+        assert_eq!(rt; judge(&script.events), verdict(&script), "of {line}");
     }
     Ok(())
 }

@@ -1,43 +1,14 @@
 // Programs that are held in texts.
 use crate::{accesses, halts};
 use lb_isa::{Isa, Stepped};
-use lb_trace::{Event, append_trace, hex_digits};
+use lb_trace::{Event, append_trace};
+use lb_trace_testkit::text::{add_number, first_line, in_one_line, numbers};
 use std::alloc::{AllocError, Global};
 use std::process::Abort;
 use std::test::Fail;
 
 // More steps than any program takes.
 const MOST_STEPS: u32 = 200;
-
-// The number of hexadecimal digits in lower case.
-fn number(text: &str) -> u32 {
-    let mut n = 0u32;
-    for b in text.bytes() {
-        let digit = if b.is_ascii_digit() {
-            b.wrapping_sub(b'0')
-        } else {
-            b.wrapping_sub(b'a').wrapping_add(10)
-        };
-        n = n.wrapping_mul(16).wrapping_add(u32::from(digit));
-    }
-    n
-}
-
-// The numbers of a line.
-fn numbers(alloc: Global, line: &str) -> Result<Vec<u32>, AllocError> {
-    let mut found = Vec::new(alloc);
-    for text in line.split_whitespace() {
-        found.push(number(text))?;
-    }
-    Ok(found)
-}
-
-// Adds a word and a number.
-fn add(told: &mut Vec<u8>, text: &[u8], n: u32) -> Result<(), AllocError> {
-    told.extend_from_slice(text)?;
-    told.extend_from_slice(&hex_digits(n))?;
-    Ok(())
-}
 
 // Steps until the program ends, and adds the accesses, the end and where it is.
 fn add_steps(
@@ -56,10 +27,10 @@ fn add_steps(
                     read = read.saturating_add(1);
                 }
             }
-            Stepped::WantsReply => return add(told, b"wants reply at ", isa.pc()),
+            Stepped::WantsReply => return add_number(told, b"wants reply at ", isa.pc()),
             Stepped::Halted { cause } => {
                 let text = format!(in alloc; "halted {cause:?} at ")?;
-                return add(told, text.as_bytes(), isa.pc());
+                return add_number(told, text.as_bytes(), isa.pc());
             }
         }
     }
@@ -78,35 +49,20 @@ fn tell(alloc: Global, code: &[u32], replies: &[u32]) -> Result<Vec<u8>, AllocEr
     for n in 0..32u8 {
         if isa.register(n) != 0 {
             let text = format!(in alloc; "\nx{n} ")?;
-            add(&mut told, text.as_bytes(), isa.register(n))?;
+            add_number(&mut told, text.as_bytes(), isa.register(n))?;
         }
     }
     Ok(told)
-}
-
-// The first line of a text, and the rest.
-fn line(text: &str) -> (&str, &str) {
-    text.split_once('\n').unwrap_or((text, ""))
-}
-
-// Lines with commas between them.
-fn in_one_line(mut text: Vec<u8>) -> Vec<u8> {
-    for b in &mut text {
-        if *b == b'\n' {
-            *b = b',';
-        }
-    }
-    text
 }
 
 // Asserts what is told of so many programs.
 fn expect(rt: &impl Abort, alloc: Global, programs: &str, count: u32) -> Result<(), AllocError> {
     let mut left = programs;
     for _ in 0..count {
-        let (what, rest) = line(left);
-        let (words, rest) = line(rest);
-        let (replies, rest) = line(rest);
-        let (want, rest) = line(rest);
+        let (what, rest) = first_line(left);
+        let (words, rest) = first_line(rest);
+        let (replies, rest) = first_line(rest);
+        let (want, rest) = first_line(rest);
         let code = numbers(alloc, words)?;
         let replies = numbers(alloc, replies)?;
         let told = tell(alloc, code.as_slice(), replies.as_slice())?;

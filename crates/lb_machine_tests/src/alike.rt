@@ -5,7 +5,7 @@ use crate::jobs::{Job, boot};
 use crate::steps::tell;
 use crate::stop::Stop;
 use lb_machine::{Machine, Parts};
-use lb_trace::{Entry, print_trace};
+use lb_trace::print_trace;
 use std::alloc::Global;
 
 /// Whether the machine is one of this job, with this many entries at most.
@@ -21,11 +21,22 @@ pub fn is_of_job(
 
 /// Whether its copy has the same job, tells the same, and is made of the same log and accesses.
 pub fn is_copied(alloc: Global, machine: &Machine) -> Result<bool, Stop> {
+    let has_job = copy_has_the_job(alloc, machine)?;
+    let tells = copy_tells_the_same(alloc, machine)?;
+    let is_made = is_made_of(machine.copy(alloc)?, machine);
+    Ok(has_job && tells && is_made)
+}
+
+// Whether its copy has the same job.
+fn copy_has_the_job(alloc: Global, machine: &Machine) -> Result<bool, Stop> {
     let copy = machine.copy(alloc)?;
-    if !copy.same_job(machine) || !tells_the_same(alloc, &copy, machine)? {
-        return Ok(false);
-    }
-    Ok(is_made_of(copy, machine))
+    Ok(copy.same_job(machine))
+}
+
+// Whether its copy tells the same.
+fn copy_tells_the_same(alloc: Global, machine: &Machine) -> Result<bool, Stop> {
+    let copy = machine.copy(alloc)?;
+    tells_the_same(alloc, &copy, machine)
 }
 
 // Whether it is made of the log and the accesses of the other.
@@ -56,19 +67,21 @@ pub fn makes(alloc: Global, machine: &Machine, lines: &str) -> Result<bool, Stop
 /// Whether each beginning of the log is replayed to what a machine is that fires it.
 pub fn replays_at_each_length(alloc: Global, job: Job, whole: &Machine) -> Result<bool, Stop> {
     let mut part = boot(alloc, job, 1000)?;
+    goes_to(alloc, job, &mut part, whole)
+}
+
+// Whether it fires the log of the other, is replayed at each length, and then tells the same.
+fn goes_to(alloc: Global, job: Job, part: &mut Machine, whole: &Machine) -> Result<bool, Stop> {
     for entry in whole.log() {
-        if !goes_on(alloc, job, &mut part, *entry)? {
+        if !is_replayed(alloc, job, part)? || !fires(part, *entry) {
             return Ok(false);
         }
     }
-    tells_the_same(alloc, &part, whole)
+    tells_the_same(alloc, part, whole)
 }
 
-// Whether its log is replayed to what it is, and the entry can be fired.
-fn goes_on(alloc: Global, job: Job, part: &mut Machine, entry: Entry) -> Result<bool, Stop> {
+// Whether its log is replayed to what it is.
+fn is_replayed(alloc: Global, job: Job, part: &Machine) -> Result<bool, Stop> {
     let again = replay_of(alloc, job, part)?;
-    if !tells_the_same(alloc, &again, part)? {
-        return Ok(false);
-    }
-    Ok(fires(part, entry))
+    tells_the_same(alloc, &again, part)
 }

@@ -72,14 +72,43 @@ pub fn lamp(machine: &Machine) -> bool {
     machine.board().lamp()
 }
 
-/// How many frames its job has.
-pub fn frame_count(machine: &Machine) -> usize {
+// How many frames its job has.
+fn frame_count(machine: &Machine) -> usize {
     machine.frames().len()
 }
 
-/// The most entries of its log.
-pub fn most(machine: &Machine) -> u32 {
+// The most entries of its log.
+fn most(machine: &Machine) -> u32 {
     machine.max_events()
+}
+
+/// What is counted of a machine.
+#[derive(Clone, Copy)]
+pub struct Counts {
+    pub entries: usize,
+    pub most: u32,
+    pub accesses: usize,
+    pub done: u64,
+    pub retired: u64,
+    pub arrived: u32,
+    pub frames: usize,
+    pub lamp: bool,
+    pub halted: Option<Cause>,
+}
+
+/// Its counts.
+pub fn counts_of(machine: &Machine) -> Counts {
+    Counts {
+        entries: count(machine),
+        most: most(machine),
+        accesses: trace_of(machine).len(),
+        done: done(machine),
+        retired: retired(machine),
+        arrived: arrived(machine),
+        frames: frame_count(machine),
+        lamp: lamp(machine),
+        halted: halted(machine),
+    }
 }
 
 /// What it is made of.

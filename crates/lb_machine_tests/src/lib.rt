@@ -17,5 +17,3 @@ mod steps;
 mod stop;
 #[cfg(test)]
 mod tests;
-#[cfg(test)]
-mod turns;

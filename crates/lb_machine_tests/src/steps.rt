@@ -6,37 +6,9 @@ use crate::calls::{
 use lb_machine::{Machine, NotFired};
 use lb_rv::Cause;
 use lb_trace::{Kind, append_trace};
+use lb_trace_testkit::kinds::{KINDS, kind_of};
 use std::alloc::{AllocError, Global};
 use std::process::Abort;
-
-/// All kinds.
-pub const KINDS: [Kind; 9] = [
-    Kind::Fetch,
-    Kind::Decode,
-    Kind::Execute,
-    Kind::Ram,
-    Kind::Mmio,
-    Kind::Writeback,
-    Kind::Boot,
-    Kind::Shift,
-    Kind::Arrive,
-];
-
-// The kind of a letter.
-fn kind_of(letter: u8) -> Option<Kind> {
-    match letter.to_ascii_uppercase() {
-        b'F' => Some(Kind::Fetch),
-        b'D' => Some(Kind::Decode),
-        b'X' => Some(Kind::Execute),
-        b'R' => Some(Kind::Ram),
-        b'M' => Some(Kind::Mmio),
-        b'W' => Some(Kind::Writeback),
-        b'B' => Some(Kind::Boot),
-        b'S' => Some(Kind::Shift),
-        b'A' => Some(Kind::Arrive),
-        _ => None,
-    }
-}
 
 // Fires a kind that is enabled.
 fn fire(rt: &impl Abort, machine: &mut Machine, kind: Kind) {
@@ -70,8 +42,8 @@ fn instruction(rt: &impl Abort, machine: &mut Machine) {
 /// Fires the kinds of the letters: those in upper case are enabled, those in lower case aren't. A point is one
 /// instruction, when nothing else is under way.
 pub fn fire_all(rt: &impl Abort, machine: &mut Machine, letters: &str) {
-    for letter in letters.bytes() {
-        if letter == b'.' {
+    for letter in letters.chars() {
+        if letter == '.' {
             instruction(rt, machine);
             continue;
         }
@@ -109,7 +81,7 @@ pub fn tell(alloc: Global, machine: &Machine) -> Result<Vec<u8>, AllocError> {
 /// Asserts that a halted machine fires nothing, and doesn't change.
 pub fn expect_halted(rt: &impl Abort, machine: &mut Machine, cause: Cause) {
     let entries = count(machine);
-    for kind in KINDS {
+    for (_, kind) in KINDS {
         assert!(rt; !is_enabled(machine, kind));
         assert_eq!(rt; attempt(machine, kind), Err(NotFired::Halted { cause }));
     }

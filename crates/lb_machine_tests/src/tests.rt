@@ -1,18 +1,17 @@
-// Firing, refusing, copying and replaying.
+// Firing, refusing, copying and replaying. What a test asserts is told by functions of one machine each: every machine that is
+// at hand where a function may return makes the proof of a function longer.
 use crate::alike::{is_copied, is_of_job, makes, replays_at_each_length};
-use crate::calls::{
-    arrived, attempt, count, done, frame_count, halted, lamp, log_of, most, replay_one,
-    replay_three, retired, trace_of,
-};
-use crate::causes::halting;
+use crate::calls::{Counts, attempt, counts_of, log_of, replay_one, replay_three};
+use crate::causes::{HaltingProgram, halting};
 use crate::jobs::{Job, boot};
 use crate::lines::{ACCESSES, FRAMES, STEPS, WORDS};
 use crate::steps::{expect_halted, fire_all};
 use crate::stop::Stop;
-use crate::turns::{Pair, open_pair, try_fire};
-use lb_machine::NotFired;
+use lb_machine::{Machine, NotFired};
 use lb_trace::{Entry, Kind};
-use lb_turn::{CloseFault, TurnFault};
+use lb_turn_testkit::pair::{Shared, share};
+use std::alloc::Global;
+use std::process::Abort;
 use std::test::Fail;
 
 /// `jal x0, 0`.
@@ -38,119 +37,176 @@ const fn entry(kind: Kind) -> Entry {
     Entry { worker: 0, kind }
 }
 
+// What is counted of a replay of three kinds, where these are its log.
+fn three_counted(alloc: Global) -> Result<Option<Counts>, Stop> {
+    let machine = replay_three(alloc, LOOP, Kind::Fetch, Kind::Boot, Kind::Decode)?;
+    let log = [entry(Kind::Fetch), entry(Kind::Boot), entry(Kind::Decode)];
+    let is_logged = log_of(&machine) == log.as_slice();
+    Ok(is_logged.then_some(counts_of(&machine)))
+}
+
+// Why a log isn't replayed.
+fn stop_of(replay: Result<Machine, Stop>) -> Option<Stop> {
+    replay.err()
+}
+
 #[test]
 fn replays_a_log_up_to_what_cannot_be_fired(rt: HostRuntime) -> Result<(), Fail> {
     let alloc = rt.alloc();
-    let machine = replay_three(alloc, LOOP, Kind::Fetch, Kind::Boot, Kind::Decode)?;
-    let log = [entry(Kind::Fetch), entry(Kind::Boot), entry(Kind::Decode)];
-    assert_eq!(rt; log_of(&machine), log.as_slice());
-    assert_eq!(rt; most(&machine), 3);
-    assert_eq!(rt; trace_of(&machine).len(), 0);
-    assert_eq!(rt; done(&machine), 0);
-    assert_eq!(rt; retired(&machine), 0);
-    assert_eq!(rt; halted(&machine), None);
-    assert_eq!(rt; arrived(&machine), 0);
-    assert!(rt; !lamp(&machine));
+    let Some(counts) = three_counted(alloc)? else {
+        panic!(rt; "the log isn't what was replayed");
+    };
+    assert_eq!(rt; counts.most, 3);
+    assert_eq!(rt; counts.accesses, 0);
+    assert_eq!(rt; counts.done, 0);
+    assert_eq!(rt; counts.retired, 0);
+    assert_eq!(rt; counts.halted, None);
+    assert_eq!(rt; counts.arrived, 0);
+    assert!(rt; !counts.lamp);
     for kind in [Kind::Decode, Kind::Arrive, Kind::Shift] {
-        assert!(rt; matches!(replay_one(alloc, LOOP, kind), Err(Stop::BadEvent(0))));
+        assert_eq!(rt;
+            stop_of(replay_one(alloc, LOOP, kind)),
+            Some(Stop::BadEvent(0))
+        );
     }
-    let three = replay_three(alloc, LOOP, Kind::Fetch, Kind::Fetch, Kind::Fetch);
-    assert!(rt; matches!(three, Err(Stop::BadEvent(2))));
+    let three = stop_of(replay_three(alloc, LOOP, Kind::Fetch, Kind::Fetch, Kind::Fetch));
+    assert_eq!(rt; three, Some(Stop::BadEvent(2)));
     Ok(())
+}
+
+// What is told of a machine of one entry: what it answers, whether it has that entry, its accesses, whether it is
+// copied, and whether it is of two other jobs.
+#[derive(Clone, Copy)]
+struct Full {
+    answers: [Result<u64, NotFired>; 3],
+    is_logged: bool,
+    accesses: usize,
+    is_copied: Result<bool, Stop>,
+    is_longer: Result<bool, Stop>,
+    is_other: Result<bool, Stop>,
+}
+
+// What is told of the machine of one entry.
+fn fill(alloc: Global) -> Result<Full, Stop> {
+    let mut machine = boot(alloc, LOOP, 1)?;
+    let answers = [
+        attempt(&mut machine, Kind::Fetch),
+        attempt(&mut machine, Kind::Boot),
+        attempt(&mut machine, Kind::Mmio),
+    ];
+    Ok(Full {
+        answers,
+        is_logged: log_of(&machine) == [entry(Kind::Fetch)].as_slice(),
+        accesses: counts_of(&machine).accesses,
+        is_copied: is_copied(alloc, &machine),
+        is_longer: is_of_job(alloc, &machine, LOOP, 2),
+        is_other: is_of_job(alloc, &machine, OTHER, 1),
+    })
 }
 
 #[test]
 fn refuses_when_full(rt: HostRuntime) -> Result<(), Fail> {
-    let alloc = rt.alloc();
-    let mut machine = boot(alloc, LOOP, 1)?;
-    assert_eq!(rt; attempt(&mut machine, Kind::Fetch), Ok(0));
-    assert_eq!(rt; attempt(&mut machine, Kind::Boot), Err(NotFired::Full));
-    assert_eq!(rt; attempt(&mut machine, Kind::Mmio), Err(NotFired::Full));
-    assert_eq!(rt; log_of(&machine), [entry(Kind::Fetch)].as_slice());
-    assert_eq!(rt; trace_of(&machine).len(), 0);
-    assert!(rt; is_copied(alloc, &machine)?);
-    assert!(rt; !is_of_job(alloc, &machine, LOOP, 2)?);
-    assert!(rt; !is_of_job(alloc, &machine, OTHER, 1)?);
+    let full = fill(rt.alloc())?;
+    let [first, second, third] = full.answers;
+    assert_eq!(rt; first, Ok(0));
+    assert_eq!(rt; second, Err(NotFired::Full));
+    assert_eq!(rt; third, Err(NotFired::Full));
+    assert!(rt; full.is_logged);
+    assert_eq!(rt; full.accesses, 0);
+    assert_eq!(rt; full.is_copied, Ok(true));
+    assert_eq!(rt; full.is_longer, Ok(false));
+    assert_eq!(rt; full.is_other, Ok(false));
     Ok(())
+}
+
+// What a new machine answers where it is asked for an access of a device.
+fn access_at_once(alloc: Global) -> Result<Result<u64, NotFired>, Stop> {
+    let mut machine = boot(alloc, LOOP, 9)?;
+    Ok(attempt(&mut machine, Kind::Mmio))
 }
 
 #[test]
 fn refuses_by_its_guard(rt: HostRuntime) -> Result<(), Fail> {
-    let mut machine = boot(rt.alloc(), LOOP, 9)?;
-    assert_eq!(rt;
-        attempt(&mut machine, Kind::Mmio),
-        Err(NotFired::GuardFalse)
-    );
+    assert_eq!(rt; access_at_once(rt.alloc())?, Err(NotFired::GuardFalse));
     Ok(())
+}
+
+// What is told of a machine that fired all steps of the program that reads no frames.
+#[derive(Clone, Copy)]
+struct Deaf {
+    makes: Result<bool, Stop>,
+    counts: Counts,
+    is_replayed: Result<bool, Stop>,
+    is_copied: Result<bool, Stop>,
+}
+
+// Fires the steps of the program that reads no frames.
+fn fire_deaf<R: Abort>(rt: &R, alloc: Global) -> Result<Deaf, Stop> {
+    let mut whole = boot(alloc, DEAF, 1000)?;
+    fire_all(rt, &mut whole, STEPS);
+    Ok(Deaf {
+        makes: makes(alloc, &whole, ACCESSES),
+        counts: counts_of(&whole),
+        is_replayed: replays_at_each_length(alloc, DEAF, &whole),
+        is_copied: is_copied(alloc, &whole),
+    })
 }
 
 #[test]
 fn frames_arrive_while_nobody_listens(rt: HostRuntime) -> Result<(), Fail> {
-    let alloc = rt.alloc();
-    let mut whole = boot(alloc, DEAF, 1000)?;
-    fire_all(&rt, &mut whole, STEPS);
-    assert!(rt; makes(alloc, &whole, ACCESSES)?);
-    assert_eq!(rt; done(&whole), 45);
-    assert_eq!(rt; arrived(&whole), 2);
-    assert_eq!(rt; frame_count(&whole), 2);
-    assert!(rt; replays_at_each_length(alloc, DEAF, &whole)?);
-    assert!(rt; is_copied(alloc, &whole)?);
+    let deaf = fire_deaf(&rt, rt.alloc())?;
+    assert_eq!(rt; deaf.makes, Ok(true));
+    assert_eq!(rt; deaf.counts.done, 45);
+    assert_eq!(rt; deaf.counts.arrived, 2);
+    assert_eq!(rt; deaf.counts.frames, 2);
+    assert_eq!(rt; deaf.is_replayed, Ok(true));
+    assert_eq!(rt; deaf.is_copied, Ok(true));
     Ok(())
+}
+
+// Fires a program until it halts, and asserts that it then fires nothing. Gives the number of its entries.
+fn halt<R: Abort>(rt: &R, alloc: Global, program: HaltingProgram) -> Result<usize, Stop> {
+    let mut machine = boot(alloc, program.job, program.entries)?;
+    fire_all(rt, &mut machine, program.letters);
+    expect_halted(rt, &mut machine, program.cause);
+    Ok(counts_of(&machine).entries)
 }
 
 #[test]
 fn halts_by_each_cause(rt: HostRuntime) -> Result<(), Fail> {
-    let alloc = rt.alloc();
     for n in 0..6u32 {
-        let halting = halting(n);
-        let mut machine = boot(alloc, halting.job, halting.entries)?;
-        fire_all(&rt, &mut machine, halting.letters);
-        assert_eq!(rt; count(&machine), halting.entries as usize);
-        expect_halted(&rt, &mut machine, halting.cause);
+        let program = halting(n);
+        assert_eq!(rt; halt(&rt, rt.alloc(), program)?, program.entries as usize);
     }
     Ok(())
+}
+
+// Whether the machine has these entries.
+fn has(machine: Option<Machine>, log: &[Entry]) -> bool {
+    match machine {
+        Some(machine) => log_of(&machine) == log,
+        None => false,
+    }
 }
 
 #[test]
 fn two_seats_fire_one_machine(rt: HostRuntime) -> Result<(), Fail> {
     let alloc = rt.alloc();
-    let Pair {
-        turn,
-        mut first,
-        mut second,
-    } = open_pair(alloc, boot(alloc, LOOP, 9)?)?;
-    assert!(rt; matches!(try_fire(&turn, &mut first, Kind::Fetch), Ok(0)));
-    assert!(rt; matches!(try_fire(&turn, &mut second, Kind::Boot), Ok(1)));
-    assert!(rt;
-        matches!(
-            try_fire(&turn, &mut first, Kind::Mmio),
-            Err(TurnFault::NotFired {
-                seen: 2,
-                why: NotFired::GuardFalse
-            })
-        )
-    );
-    let mut seats = Vec::new(alloc);
-    seats.push(second)?;
-    let Err(
-        CloseFault::Missing {
-            turn,
-            mut seats,
-            number,
-        },
-    ) = turn.close(seats)
-    else {
-        panic!(rt; "a turn was closed without its seat 0");
-    };
-    assert_eq!(rt; number, 0);
-    seats.push(first)?;
-    let Ok(machine) = turn.close(seats) else {
-        panic!(rt; "a turn wasn't closed with both seats");
-    };
-    let second = Entry {
+    let Shared {
+        first,
+        second,
+        is_refused,
+        missing,
+        value,
+    } = share(alloc, boot(alloc, LOOP, 9)?, &NotFired::GuardFalse)?;
+    let by_second = Entry {
         worker: 1,
         kind: Kind::Boot,
     };
-    assert_eq!(rt; log_of(&machine), [entry(Kind::Fetch), second].as_slice());
+    assert!(rt; has(value, &[entry(Kind::Fetch), by_second]));
+    assert_eq!(rt; missing, Some(0));
+    assert!(rt; is_refused);
+    assert_eq!(rt; first.place, Some(0));
+    assert_eq!(rt; second.place, Some(1));
     Ok(())
 }
