@@ -1,5 +1,5 @@
-// Traces of the lamp's program written in short: a text of words, each a capital letter with hexadecimal numbers that stand between
-// colons.
+// Traces of the lamp's program written in short: a text of words, each a capital letter with hexadecimal numbers that
+// stand between colons.
 //
 //     La:v Sa:v      a load, a store
 //     Ra:v Wa:v      a whole read, a whole write of the network chip's register a
