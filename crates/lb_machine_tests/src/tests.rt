@@ -1,5 +1,5 @@
-// Firing, refusing, copying and replaying. What a test asserts is told by functions of one machine each: every machine that is
-// at hand where a function may return makes the proof of a function longer.
+// Firing, refusing, copying and replaying. What a test asserts is told by functions of one machine each: every machine
+// that is at hand where a function may return makes the proof of a function longer.
 use crate::alike::{is_copied, is_of_job, makes, replays_at_each_length};
 use crate::calls::{Counts, attempt, counts_of, log_of, replay_one, replay_three};
 use crate::causes::{HaltingProgram, halting};
