@@ -1,14 +1,10 @@
 // How both calls answer for the flat form of a text's program.
-ghost use Rattle.std.specs.Prelude.{◌<◌, length, IfOk};
-ghost use Rattle.lb_flat.specs.Flat.{flat_executable};
+ghost use Rattle.std.specs.Prelude.{◌<◌, length};
 ghost use Rattle.lb_flat.specs.Located.{lists_of, places_at};
-ghost use Rattle.lb_flat.specs.Order.{IsFlatInOrder};
 
 use lb_alloc::{accepts, allocate};
-use lb_check::{CheckError, check};
-use lb_flat::{FlatProgram, FunctionPlaces, Place, Places, flatten};
-use lb_handmade::has_few_parts;
-use lb_text::{ReadError, read_program};
+use lb_flat::{FunctionPlaces, Place, Places};
+use lb_program_testkit::{NoProgram, flat_program};
 use sqlite_items::Items;
 use std::alloc::{AllocError, Global};
 use std::process::Abort;
@@ -16,14 +12,18 @@ use std::process::Abort;
 /// Why there is no answer.
 #[derive(Clone, Copy, Debug, PartialEq, Eq)]
 pub enum NoAnswer {
-    /// The text is no program's, or its program breaks a rule.
-    Refused,
-    /// The text or its program is too large.
-    Large,
+    /// There is no program.
+    Program(NoProgram),
     /// These are no places.
     NoPlaces,
     /// No memory is left.
     Memory,
+}
+
+impl From<NoProgram> for NoAnswer {
+    fn from(reason: NoProgram) -> Self {
+        NoAnswer::Program(reason)
+    }
 }
 
 impl From<AllocError> for NoAnswer {
@@ -31,9 +31,6 @@ impl From<AllocError> for NoAnswer {
         NoAnswer::Memory
     }
 }
-
-// The most bytes of a text.
-const MOST_BYTES: usize = 1_048_576;
 
 /// Asserts that these places are accepted for the text's program, or that they aren't. The places of a function stand behind
 /// those of the one before it and a `;`: a register as its number, a slot as `s` and its number.
@@ -44,7 +41,7 @@ pub fn expect_verdict(
     places: &str,
     want: bool,
 ) -> Result<(), NoAnswer> {
-    let flat = flat_program(alloc, text)?;
+    let flat = flat_program(alloc, text.as_bytes())?;
     let found = accepts(alloc, &flat, &read_places(alloc, places)?)?;
     assert_eq!(rt; found, want, "of {places} for {text}");
     Ok(())
@@ -57,34 +54,11 @@ pub fn expect_places(
     text: &str,
     want: (usize, usize),
 ) -> Result<(), NoAnswer> {
-    let flat = flat_program(alloc, text)?;
+    let flat = flat_program(alloc, text.as_bytes())?;
     let places = allocate(alloc, &flat)?;
     assert!(rt; accepts(alloc, &flat, &places)?, "of {text}");
     assert_eq!(rt; count(&places), want, "of {text}");
     Ok(())
-}
-
-// The flat form of the text's program.
-fn flat_program(alloc: Global, text: &str) -> Result<FlatProgram, NoAnswer>
-    ensures { IfOk result (λ flat. IsFlatInOrder (flat_executable flat)) }
-{
-    let bytes = text.as_bytes();
-    if bytes.len() > MOST_BYTES {
-        return Err(NoAnswer::Large);
-    }
-    let program = match read_program(alloc, bytes) {
-        Ok(program) => program,
-        Err(ReadError::Text(_)) => return Err(NoAnswer::Refused),
-        Err(ReadError::Memory) => return Err(NoAnswer::Memory),
-    };
-    if !has_few_parts(&program) {
-        return Err(NoAnswer::Large);
-    }
-    match check(alloc, program) {
-        Ok(checked) => Ok(flatten(alloc, &checked)?),
-        Err(CheckError::Fault(_)) => Err(NoAnswer::Refused),
-        Err(CheckError::Memory) => Err(NoAnswer::Memory),
-    }
 }
 
 fn read_places(alloc: Global, text: &str) -> Result<Places, NoAnswer> {

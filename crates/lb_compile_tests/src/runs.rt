@@ -1,6 +1,7 @@
 // What the code of programs does.
-use crate::answer::{NoImage, image_of};
+use crate::answer::image_of;
 use lb_isa::run;
+use lb_program_testkit::NoProgram;
 use lb_trace::print_trace;
 use std::alloc::Global;
 use std::process::Abort;
@@ -13,7 +14,7 @@ fn expect(
     text: &str,
     replies: &[u32],
     want: &str,
-) -> Result<(), NoImage> {
+) -> Result<(), NoProgram> {
     let image = image_of(alloc, text.as_bytes())?;
     let ran = run(alloc, image.code.as_slice(), image.entry, replies, 100_000)?;
     let mut told = format!(in alloc; "{:?}\n", ran.ending)?.into_bytes();

@@ -1,9 +1,10 @@
 // What code does to the devices.
 ghost use Rattle.lb_isa.specs.Runs.{IsBootable};
 
-use crate::compiled::{NoCode, compile, compile_in_slots};
+use crate::compiled::{compile, compile_in_slots};
 use lb_emit::Emitted;
 use lb_isa::{Ending, run};
+use lb_program_testkit::NoProgram;
 use lb_trace::Event;
 use std::alloc::{AllocError, Global};
 use std::process::Abort;
@@ -19,7 +20,7 @@ pub fn expect(
     text: &str,
     replies: &[u32],
     want: &str,
-) -> Result<(), NoCode> {
+) -> Result<(), NoProgram> {
     let emitted = compile(alloc, text)?;
     expect_of(rt, alloc, &emitted, replies, want)?;
     Ok(())
@@ -32,7 +33,7 @@ pub fn expect_in_slots(
     text: &str,
     replies: &[u32],
     want: &str,
-) -> Result<(), NoCode> {
+) -> Result<(), NoProgram> {
     let emitted = compile_in_slots(alloc, text)?;
     expect_of(rt, alloc, &emitted, replies, want)?;
     Ok(())

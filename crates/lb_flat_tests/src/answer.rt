@@ -1,57 +1,14 @@
 // The flat form of a text's program, as lines to compare.
-use lb_check::{CheckError, check};
-use lb_flat::{FlatBlock, FlatCmd, FlatFunction, FlatProgram, flatten};
-use lb_handmade::has_few_parts;
-use lb_text::{ReadError, read_program};
+use lb_flat::{FlatBlock, FlatCmd, FlatFunction, FlatProgram};
+use lb_program_testkit::{NoProgram, flat_program};
 use std::alloc::{AllocError, Global};
 use std::process::Abort;
 
-/// Why there is no answer.
-#[derive(Clone, Copy, Debug, PartialEq, Eq)]
-pub enum NoAnswer {
-    /// The text is no program's, or its program breaks a rule.
-    Refused,
-    /// The text or its program is too large.
-    Large,
-    /// No memory is left.
-    Memory,
-}
-
-impl From<AllocError> for NoAnswer {
-    fn from(_: AllocError) -> Self {
-        NoAnswer::Memory
-    }
-}
-
-// The most bytes of a text.
-const MOST_BYTES: usize = 1_048_576;
-
 /// Asserts that the text's program becomes this.
-pub fn expect(rt: &impl Abort, alloc: Global, text: &str, want: &str) -> Result<(), NoAnswer> {
-    let lines = answer(alloc, text)?;
+pub fn expect(rt: &impl Abort, alloc: Global, text: &str, want: &str) -> Result<(), NoProgram> {
+    let lines = print(alloc, &flat_program(alloc, text.as_bytes())?)?;
     assert_eq!(rt; lines.as_str(), want, "of {text}");
     Ok(())
-}
-
-// The flat form of the text's program.
-fn answer(alloc: Global, text: &str) -> Result<String, NoAnswer> {
-    let bytes = text.as_bytes();
-    if bytes.len() > MOST_BYTES {
-        return Err(NoAnswer::Large);
-    }
-    let program = match read_program(alloc, bytes) {
-        Ok(program) => program,
-        Err(ReadError::Text(_)) => return Err(NoAnswer::Refused),
-        Err(ReadError::Memory) => return Err(NoAnswer::Memory),
-    };
-    if !has_few_parts(&program) {
-        return Err(NoAnswer::Large);
-    }
-    match check(alloc, program) {
-        Ok(checked) => Ok(print(alloc, &flatten(alloc, &checked)?)?),
-        Err(CheckError::Fault(_)) => Err(NoAnswer::Refused),
-        Err(CheckError::Memory) => Err(NoAnswer::Memory),
-    }
 }
 
 // The numbers of the two functions that are called from outside, and each function's lines.

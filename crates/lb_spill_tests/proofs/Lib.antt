@@ -1,3 +1,1 @@
-pub mod WalkNames
-pub mod ChosenAccepted
 pub mod DoublingOrder

@@ -1,24 +1,30 @@
 // The placed form of a text's program, as lines to compare.
-use crate::choosing::chosen_places;
+ghost use Rattle.lb_flat.specs.Flat.{flat_executable};
+ghost use Rattle.lb_flat.specs.Order.{IsFlatInOrder};
+
 use crate::doubling::doubled_variable;
 use crate::print::print;
-use lb_check::{CheckError, check};
-use lb_flat::flatten;
-use lb_handmade::has_few_parts;
+use lb_flat::FlatProgram;
+use lb_program_testkit::{NoProgram, chosen_places, flat_program};
 use lb_spill::place;
-use lb_text::{ReadError, read_program};
 use std::alloc::{AllocError, Global};
 use std::process::Abort;
 
 /// Why there is no answer.
 #[derive(Clone, Copy, Debug, PartialEq, Eq)]
 pub enum NoAnswer {
-    /// The text is no program's, or its program breaks a rule.
-    Refused,
-    /// The text, its program or the number of registers is too large.
-    Large,
+    /// There is no program.
+    Program(NoProgram),
+    /// There are not so many registers.
+    Registers,
     /// No memory is left.
     Memory,
+}
+
+impl From<NoProgram> for NoAnswer {
+    fn from(reason: NoProgram) -> Self {
+        NoAnswer::Program(reason)
+    }
 }
 
 impl From<AllocError> for NoAnswer {
@@ -26,9 +32,6 @@ impl From<AllocError> for NoAnswer {
         NoAnswer::Memory
     }
 }
-
-// The most bytes of a text.
-const MOST_BYTES: usize = 1_048_576;
 
 // The most registers.
 const MOST_REGISTERS: u32 = 12;
@@ -42,7 +45,8 @@ pub fn expect(
     (from, to): (u32, u32),
     want: &str,
 ) -> Result<(), NoAnswer> {
-    let lines = answer(alloc, text, from, to)?;
+    let flat = flat_program(alloc, text.as_bytes())?;
+    let lines = placed_lines(alloc, &flat, from, to)?;
     assert_eq!(rt; lines.as_str(), want, "of {text} with {from} to {to}");
     Ok(())
 }
@@ -54,37 +58,19 @@ pub fn expect_doubled(
     (from, to): (u32, u32),
     want: &str,
 ) -> Result<(), NoAnswer> {
-    if to > MOST_REGISTERS {
-        return Err(NoAnswer::Large);
-    }
     let flat = doubled_variable(alloc)?;
-    let places = chosen_places(alloc, &flat, from, to)?;
-    let lines = print(alloc, &place(alloc, &flat, &places)?)?;
+    let lines = placed_lines(alloc, &flat, from, to)?;
     assert_eq!(rt; lines.as_str(), want, "with {from} to {to}");
     Ok(())
 }
 
-// The placed form of the text's program.
-fn answer(alloc: Global, text: &str, from: u32, to: u32) -> Result<String, NoAnswer> {
-    let bytes = text.as_bytes();
-    if bytes.len() > MOST_BYTES || to > MOST_REGISTERS {
-        return Err(NoAnswer::Large);
+// The placed form of a program.
+fn placed_lines(alloc: Global, flat: &FlatProgram, from: u32, to: u32) -> Result<String, NoAnswer>
+    requires { IsFlatInOrder (flat_executable flat.now) }
+{
+    if to > MOST_REGISTERS {
+        return Err(NoAnswer::Registers);
     }
-    let program = match read_program(alloc, bytes) {
-        Ok(program) => program,
-        Err(ReadError::Text(_)) => return Err(NoAnswer::Refused),
-        Err(ReadError::Memory) => return Err(NoAnswer::Memory),
-    };
-    if !has_few_parts(&program) {
-        return Err(NoAnswer::Large);
-    }
-    match check(alloc, program) {
-        Ok(checked) => {
-            let flat = flatten(alloc, &checked)?;
-            let places = chosen_places(alloc, &flat, from, to)?;
-            Ok(print(alloc, &place(alloc, &flat, &places)?)?)
-        }
-        Err(CheckError::Fault(_)) => Err(NoAnswer::Refused),
-        Err(CheckError::Memory) => Err(NoAnswer::Memory),
-    }
+    let places = chosen_places(alloc, flat, from, to)?;
+    Ok(print(alloc, &place(alloc, flat, &places)?)?)
 }

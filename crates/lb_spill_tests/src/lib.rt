@@ -4,12 +4,10 @@
 
 #[cfg(test)]
 mod answer;
-mod choosing;
 mod doubling;
 #[cfg(test)]
 mod print;
 #[cfg(test)]
 mod worked;
 
-pub use choosing::chosen_places;
 pub use doubling::doubled_variable;

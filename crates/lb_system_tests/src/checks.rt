@@ -1,6 +1,7 @@
 // What `check` tells: what a program asks for, the first rule that it breaks, or the place where its text fails.
-use crate::lamp::LAMP;
+use lb_bulb::source;
 use lb_testkit::call::{Call, call_plain, whole};
+use std::alloc::{AllocError, Global};
 use std::test::Fail;
 
 const CHECK: [&str; 2] = ["bulb", "check"];
@@ -8,13 +9,12 @@ const CHECK: [&str; 2] = ["bulb", "check"];
 const EMPTY: &[u8] = b"fn init() { } fn loop() { }";
 
 // An input, the status and the line.
-const RULES: [(&str, u8, &str); 25] = [
+const RULES: [(&str, u8, &str); 24] = [
     (
         "fn init() { } fn loop() { }",
         0,
         "ok functions 2 words 176 stack 136\n",
     ),
-    (LAMP, 0, "ok functions 5 words 3066 stack 2036\n"),
     (
         "fn init() { } fn loop() { } fn init() { }",
         3,
@@ -151,29 +151,29 @@ const TEXTS: [(&str, &str); 14] = [
     ("fn init() { x == 1", "text at 15 unexpected\n"),
 ];
 
+// Whether `check` tells this line of the input, and ends so, without an image.
+fn tells(alloc: Global, input: &[u8], status: u8, line: &str) -> Result<bool, AllocError> {
+    let a = call_plain(alloc, &whole(&CHECK, input))?;
+    Ok(a.status == status && a.written.as_slice() == line.as_bytes() && !a.has_image)
+}
+
 #[test]
 fn tells_needs_and_rules(rt: HostRuntime) -> Result<(), Fail> {
     for (input, status, line) in RULES {
-        let a = call_plain(rt.alloc(), &whole(&CHECK, input.as_bytes()))?;
-        assert_eq!(rt; a.status, status, "of {input}");
         assert!(rt;
-            a.written.as_slice() == line.as_bytes(),
-            "written for {input}"
+            tells(rt.alloc(), input.as_bytes(), status, line)?,
+            "of {input}"
         );
-        assert!(rt; !a.has_image);
     }
+    let line = "ok functions 5 words 3066 stack 2036\n";
+    assert!(rt; tells(rt.alloc(), source(), 0, line)?);
     Ok(())
 }
 
 #[test]
 fn tells_where_a_text_fails(rt: HostRuntime) -> Result<(), Fail> {
     for (input, line) in TEXTS {
-        let a = call_plain(rt.alloc(), &whole(&CHECK, input.as_bytes()))?;
-        assert_eq!(rt; a.status, 2, "of {input}");
-        assert!(rt;
-            a.written.as_slice() == line.as_bytes(),
-            "written for {input}"
-        );
+        assert!(rt; tells(rt.alloc(), input.as_bytes(), 2, line)?, "of {input}");
     }
     Ok(())
 }

@@ -11,8 +11,6 @@ mod checks;
 #[cfg(test)]
 mod compared;
 #[cfg(test)]
-mod lamp;
-#[cfg(test)]
 mod large;
 #[cfg(test)]
 mod lists;

@@ -1,5 +1,5 @@
 // What `interp` and `isa` report, and what the modes that compile refuse.
-use crate::lamp::LAMP;
+use lb_bulb::source;
 use lb_testkit::call::{Answer, call_plain, whole};
 use std::alloc::{AllocError, Global};
 use std::test::Fail;
@@ -222,7 +222,7 @@ fn waits_and_halts(rt: HostRuntime) -> Result<(), Fail> {
 // The driver polls a chip that never answers: 1,000 reads, and 4 writes.
 #[test]
 fn interprets_the_driver(rt: HostRuntime) -> Result<(), Fail> {
-    let mut input = Vec::from_slice(rt.alloc(), LAMP.as_bytes())?;
+    let mut input = Vec::from_slice(rt.alloc(), source())?;
     input.extend_from_slice(b"\n%%\n")?;
     for _ in 0..1000 {
         input.extend_from_slice(b"80000000\n")?;
@@ -233,22 +233,32 @@ fn interprets_the_driver(rt: HostRuntime) -> Result<(), Fail> {
     Ok(())
 }
 
-// The bytes that `compile` writes are an image, which lists as its source does.
+// Whether the bytes that `compile` writes for the input are an image, which lists as the input does.
+fn lists_alike(alloc: Global, input: &[u8]) -> Result<bool, AllocError> {
+    let image = answer(alloc, "compile", input)?;
+    let text = answer(alloc, "list", input)?;
+    let listed = answer(alloc, "list", &image.written)?;
+    Ok(
+        image.status == 0
+            && text.status == 0
+            && listed.status == 0
+            && image.written.starts_with(b"LBIM\x01\x00\x00\x00")
+            && text.written.starts_with(b"entry ")
+            && text.written == listed.written
+            && image.has_image
+            && text.has_image
+            && !listed.has_image,
+    )
+}
+
 #[test]
 fn compiles_images_that_list_alike(rt: HostRuntime) -> Result<(), Fail> {
     for input in [
-        "fn init() { } fn loop() { }",
-        "fn init() { stackalloc 8 as p { store4(p, 1); f(p); } } fn loop() { } fn f(p) { x = load4(p); MMIOWRITE(0x1001200C, x); }",
-        LAMP,
+        b"fn init() { } fn loop() { }".as_slice(),
+        b"fn init() { stackalloc 8 as p { store4(p, 1); f(p); } } fn loop() { } fn f(p) { x = load4(p); MMIOWRITE(0x1001200C, x); }".as_slice(),
+        source(),
     ] {
-        let image = answer(rt.alloc(), "compile", input.as_bytes())?;
-        let source = answer(rt.alloc(), "list", input.as_bytes())?;
-        let listed = answer(rt.alloc(), "list", &image.written)?;
-        assert!(rt; image.status == 0 && source.status == 0 && listed.status == 0);
-        assert!(rt; image.written.starts_with(b"LBIM\x01\x00\x00\x00"));
-        assert!(rt; source.written.starts_with(b"entry "));
-        assert!(rt; source.written == listed.written);
-        assert!(rt; image.has_image && source.has_image && !listed.has_image);
+        assert!(rt; lists_alike(rt.alloc(), input)?);
     }
     Ok(())
 }

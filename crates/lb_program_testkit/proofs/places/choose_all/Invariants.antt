@@ -1,8 +1,8 @@
 use Rattle.std.proofs.Common.{◌≡◌, ◌++◌, drop, map}
 use Rattle.lb_flat.specs.declared.places.FunctionPlaces.{FunctionPlaces}
 use Rattle.lb_flat.specs.Flat.{flat_routine}
-use Rattle.lb_spill_tests.specs.Chosen.{all_chosen}
-use Rattle.lb_spill_tests.proofs.choosing.choose_all.Given as goal
+use Rattle.lb_program_testkit.specs.Chosen.{all_chosen}
+use Rattle.lb_program_testkit.proofs.places.choose_all.Given as goal
 
 -- the lists so far, and those of what is left, are all
 abbrev pub invariant-loop-f : goal.invariant-loop-f

@@ -12,8 +12,8 @@ use Rattle.lb_flat.specs.Located.{place_of}
 use Rattle.lb_flat.specs.Accepted.{MayHold, AreAccepted, AreAllAccepted}
 use Rattle.lb_flat.specs.Order.{IsVariable, KeepsRoutineRules, IsFlatInOrder}
 use Rattle.lb_flat.proofs.FlatForms.{by_elements}
-use Rattle.lb_spill_tests.specs.Chosen.{chosen, first_chosen, all_chosen}
-use Rattle.lb_spill_tests.proofs.WalkNames.{walk_below, set_below, behind_below}
+use Rattle.lb_program_testkit.specs.Chosen.{chosen, first_chosen, all_chosen}
+use Rattle.lb_program_testkit.proofs.WalkNames.{walk_below, set_below, behind_below}
 
 -- ---- lists with one more at the end
 

@@ -4,7 +4,7 @@ ghost use Rattle.lb_flat.specs.Flat.{flat_routine, flat_executable};
 ghost use Rattle.lb_flat.specs.Located.{lists_of};
 ghost use Rattle.lb_flat.specs.Accepted.{AreAllAccepted};
 ghost use Rattle.lb_flat.specs.Order.{IsFlatInOrder};
-ghost use Rattle.lb_spill_tests.specs.Chosen.{chosen, first_chosen, all_chosen};
+ghost use Rattle.lb_program_testkit.specs.Chosen.{chosen, first_chosen, all_chosen};
 
 use lb_flat::{FlatFunction, FlatProgram, FunctionPlaces, Place, Places};
 use sqlite_items::Items;

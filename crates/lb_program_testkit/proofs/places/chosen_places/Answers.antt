@@ -2,9 +2,9 @@ use Rattle.std.proofs.Common.{List, map, sym, ap, ◌∙◌, subst}
 use Rattle.lb_flat.specs.declared.places.Place.{Place}
 use Rattle.lb_flat.specs.Flat.{flat_routine, flat_executable}
 use Rattle.lb_flat.specs.Accepted.{AreAllAccepted}
-use Rattle.lb_spill_tests.specs.Chosen.{all_chosen}
-use Rattle.lb_spill_tests.proofs.ChosenAccepted.{chosen_accepted}
-use Rattle.lb_spill_tests.proofs.choosing.chosen_places.Goals as goal
+use Rattle.lb_program_testkit.specs.Chosen.{all_chosen}
+use Rattle.lb_program_testkit.proofs.ChosenAccepted.{chosen_accepted}
+use Rattle.lb_program_testkit.proofs.places.chosen_places.Goals as goal
 
 pub returns : goal.returns
 returns c =
