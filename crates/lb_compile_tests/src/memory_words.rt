@@ -1,6 +1,7 @@
 // How many loads and stores code has, and does.
 use crate::answer::image_of;
 use lb_isa::Isa;
+use lb_program_testkit::NoProgram;
 use lb_rv::{Instr, decode};
 use std::alloc::{AllocError, Global};
 use std::test::Fail;
@@ -33,16 +34,21 @@ fn many_sums(alloc: Global) -> Result<String, AllocError> {
     Ok(text)
 }
 
-#[test]
-fn small_programs_have_few(rt: HostRuntime) -> Result<(), Fail> {
-    let text = many_sums(rt.alloc())?;
-    let image = image_of(rt.alloc(), text.as_bytes())?;
+// How many words of the text's code are loads and stores.
+fn count_accesses(alloc: Global, text: &str) -> Result<usize, NoProgram> {
+    let image = image_of(alloc, text.as_bytes())?;
     let accesses = image
         .code
         .as_slice()
         .iter()
         .filter(|word| accesses_memory(**word));
-    assert!(rt; accesses.count() <= 176);
+    Ok(accesses.count())
+}
+
+#[test]
+fn small_programs_have_few(rt: HostRuntime) -> Result<(), Fail> {
+    let text = many_sums(rt.alloc())?;
+    assert!(rt; count_accesses(rt.alloc(), text.as_str())? <= 176);
     Ok(())
 }
 

@@ -1,13 +1,29 @@
 // What the code of programs does.
 use crate::answer::image_of;
-use lb_isa::run;
+use lb_isa::{IsaRun, run};
 use lb_program_testkit::NoProgram;
 use lb_trace::print_trace;
-use std::alloc::Global;
+use std::alloc::{AllocError, Global};
 use std::process::Abort;
 use std::test::Fail;
 
-// Asserts that the code of the text's program, run for at most 100,000 instructions with these replies, does this.
+// How a run ended, and what it did.
+fn lines(alloc: Global, ran: &IsaRun) -> Result<Vec<u8>, AllocError> {
+    let ending = format!(in alloc; "{:?}\n", ran.ending)?;
+    let mut lines = ending.into_bytes();
+    let trace = print_trace(alloc, ran.trace.as_slice())?;
+    lines.extend_from_slice(trace.as_slice())?;
+    Ok(lines)
+}
+
+// What the code of the text's program does, run for at most 100,000 instructions with these replies.
+fn told(alloc: Global, text: &str, replies: &[u32]) -> Result<Vec<u8>, NoProgram> {
+    let image = image_of(alloc, text.as_bytes())?;
+    let ran = run(alloc, image.code.as_slice(), image.entry, replies, 100_000)?;
+    Ok(lines(alloc, &ran)?)
+}
+
+// Asserts that the code of the text's program does this with these replies.
 fn expect(
     rt: &impl Abort,
     alloc: Global,
@@ -15,10 +31,7 @@ fn expect(
     replies: &[u32],
     want: &str,
 ) -> Result<(), NoProgram> {
-    let image = image_of(alloc, text.as_bytes())?;
-    let ran = run(alloc, image.code.as_slice(), image.entry, replies, 100_000)?;
-    let mut told = format!(in alloc; "{:?}\n", ran.ending)?.into_bytes();
-    told.extend_from_slice(print_trace(alloc, ran.trace.as_slice())?.as_slice())?;
+    let told = told(alloc, text, replies)?;
     assert_eq!(rt; told.as_slice(), want.as_bytes(), "of {text}");
     Ok(())
 }

@@ -39,8 +39,8 @@ pub fn expect_in_slots(
     Ok(())
 }
 
-/// The same of code.
-pub fn expect_of(
+// The same of code.
+fn expect_of(
     rt: &impl Abort,
     alloc: Global,
     emitted: &Emitted,

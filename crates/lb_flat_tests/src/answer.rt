@@ -98,6 +98,13 @@ fn plain_line(alloc: Global, c: &FlatCmd) -> Result<String, AllocError> {
             value,
         } => format!(in alloc; " store {width:?} {address} {value}"),
         FlatCmd::Unset { target } => format!(in alloc; " unset {target}"),
+        _ => outward_line(alloc, c),
+    }
+}
+
+// A call or an access.
+fn outward_line(alloc: Global, c: &FlatCmd) -> Result<String, AllocError> {
+    match c {
         FlatCmd::Call {
             targets,
             function,

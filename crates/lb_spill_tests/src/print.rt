@@ -90,6 +90,13 @@ fn plain_line(alloc: Global, c: &PlacedCmd) -> Result<String, AllocError> {
         } => format!(in alloc; " store {width:?} r{address} r{value}"),
         PlacedCmd::GetSlot { register, slot } => format!(in alloc; " r{register}=s{slot}"),
         PlacedCmd::PutSlot { slot, register } => format!(in alloc; " s{slot}=r{register}"),
+        _ => outward_line(alloc, c),
+    }
+}
+
+// A call or an access.
+fn outward_line(alloc: Global, c: &PlacedCmd) -> Result<String, AllocError> {
+    match c {
         PlacedCmd::Call {
             targets,
             function,
