@@ -1,2 +1,3 @@
 pub mod InternalReading
+pub mod InternalFindings
 pub mod Refusal

@@ -1,12 +1,8 @@
 // Calls of functions and accesses of devices.
-ghost use Rattle.std.specs.Prelude.{◌≡◌, ◌≤◌, ◌-◌, ◌∷◌, [], List, map, IfOk, IfErr};
-ghost use Rattle.lb_syntax.specs.Names.{Text};
+ghost use Rattle.std.specs.Prelude.{◌≤◌, ◌∷◌, []};
 ghost use Rattle.lb_syntax.specs.Brackets.{most_brackets};
-ghost use Rattle.lb_syntax.specs.Tree.{term_of, command_of};
 ghost use Rattle.lb_spelling.specs.declared.symbol.Symbol.TheVariants as symbols;
-ghost use Rattle.lb_spelling.specs.Tokens.{OpenParen, CloseParen, Semicolon, Stands};
-ghost use Rattle.lb_spelling.specs.Grammar.{◌then◌, TermAt, ArgumentsAt, TargetsAt, CommandAt};
-ghost use Rattle.lb_text.specs.InternalReading.{Reads, Fails, After, token_of_callee};
+ghost use Rattle.lb_text.specs.InternalFindings.{rest_of_arguments, rest_of_call, ClosedArguments, ArgumentsBehind, OpenCall, FindsClosing, Refuses};
 
 use crate::parse_error::ParseError;
 use crate::term::{term, term_from};
@@ -36,8 +32,8 @@ pub fn call(
 ) -> Result<(Cmd, &[u8]), ParseError>
     requires some { 1 ≤ depth }
     requires few { depth ≤ most_brackets }
-    ensures found { IfOk result (λ r. Reads depth (symbols.Arguments ∷ symbols.Semicolon ∷ []) (After (TargetsAt targets then Stands (token_of_callee callee) then Stands OpenParen) (CommandAt (command_of r.0))) (depth - 1) [] bytes.now r.1.now) }
-    ensures fault { IfErr result (λ e. Fails depth (symbols.Arguments ∷ symbols.Semicolon ∷ []) bytes.now e) }
+    ensures found { FindsClosing depth rest_of_call (OpenCall targets callee) bytes.now result }
+    ensures fault { Refuses depth rest_of_call bytes.now result }
 {
     let (arguments, rest) = arguments(alloc, depth, bytes)?;
     let rest = sign(Symbol::Semicolon, depth - 1, rest)?;
@@ -59,8 +55,8 @@ pub fn call(
 // The arguments from behind the bracket before them on, and what follows the bracket behind them.
 fn arguments(alloc: Global, depth: u32, bytes: &[u8]) -> Result<(Items<Expr>, &[u8]), ParseError>
     requires { depth ≤ most_brackets }
-    ensures found { IfOk result (λ r. Reads depth (symbols.Arguments ∷ []) (ArgumentsAt (map term_of r.0) then Stands CloseParen) (depth - 1) [] bytes.now r.1.now) }
-    ensures fault { IfErr result (λ e. Fails depth (symbols.Arguments ∷ []) bytes.now e) }
+    ensures found { FindsClosing depth (symbols.Arguments ∷ []) ClosedArguments bytes.now result }
+    ensures fault { Refuses depth (symbols.Arguments ∷ []) bytes.now result }
 {
     let (token, rest) = expect_token(Symbol::Arguments, depth, bytes)?;
     if let Token::CloseParen = token {
@@ -78,8 +74,8 @@ fn more_arguments(
     bytes: &[u8],
 ) -> Result<(Items<Expr>, &[u8]), ParseError>
     requires { depth ≤ most_brackets }
-    ensures found { IfOk result (λ r. Reads depth (symbols.MoreArguments ∷ []) (After (TermAt (term_of first)) (ArgumentsAt (map term_of r.0) then Stands CloseParen)) (depth - 1) [] bytes.now r.1.now) }
-    ensures fault { IfErr result (λ e. Fails depth (symbols.MoreArguments ∷ []) bytes.now e) }
+    ensures found { FindsClosing depth rest_of_arguments (ArgumentsBehind first) bytes.now result }
+    ensures fault { Refuses depth rest_of_arguments bytes.now result }
 {
     let mut arguments = Items::new(alloc);
     arguments.push(first)?;

@@ -1,12 +1,11 @@
 // Commands and blocks.
-ghost use Rattle.std.specs.Prelude.{◌≡◌, ◌≤◌, ◌-◌, ◌∷◌, [], true, false, IfOk, IfErr, is_some};
+ghost use Rattle.std.specs.Prelude.{◌≡◌, ◌≤◌, ◌∷◌, [], true};
 ghost use Rattle.lb_syntax.specs.Brackets.{most_brackets};
-ghost use Rattle.lb_syntax.specs.Tree.{Then, chain, command_of, block_of};
 ghost use Rattle.lb_spelling.specs.declared.symbol.Symbol.TheVariants as symbols;
-ghost use Rattle.lb_spelling.specs.Tokens.{If, While, StackAlloc, Stands};
-ghost use Rattle.lb_spelling.specs.Grammar.{◌then◌, CommandAt, CommandsAt, BlockAt, ElseAt};
+ghost use Rattle.lb_spelling.specs.Tokens.{If, While, StackAlloc};
 ghost use Rattle.lb_scan.specs.Tokens.{token_of};
-ghost use Rattle.lb_text.specs.InternalReading.{Reads, ReadsUpTo, Fails, After, coming, Took, begins_plain, begins_command};
+ghost use Rattle.lb_text.specs.InternalReading.{Took, begins_plain, begins_command};
+ghost use Rattle.lb_text.specs.InternalFindings.{rest_of_commands, rest_of_if, rest_of_while, rest_of_allocation, BracedAt, BlockFrom, CommandFrom, CommandsFrom, ElseAndCommands, Finds, FindsClosing, FindsCommand, FindsUpTo, FindsCommandUpTo, Refuses};
 
 use crate::call::Callee;
 use crate::names::{checked, name};
@@ -24,8 +23,8 @@ use std::alloc::Global;
 #[cycle(block)]
 pub fn block(alloc: Global, depth: u32, bytes: &[u8]) -> Result<(Block, &[u8]), ParseError>
     requires { depth ≤ most_brackets }
-    ensures found { IfOk result (λ r. Reads depth (symbols.Block ∷ []) (BlockAt (block_of r.0)) depth [] bytes.now r.1.now) }
-    ensures fault { IfErr result (λ e. Fails depth (symbols.Block ∷ []) bytes.now e) }
+    ensures found { Finds depth (symbols.Block ∷ []) BracedAt bytes.now result }
+    ensures fault { Refuses depth (symbols.Block ∷ []) bytes.now result }
 {
     let (_, rest) = expect_token(Symbol::Block, depth, bytes)?;
     commands(alloc, depth + 1, rest)
@@ -35,8 +34,8 @@ pub fn block(alloc: Global, depth: u32, bytes: &[u8]) -> Result<(Block, &[u8]), 
 #[cycle(block)]
 pub fn commands(alloc: Global, depth: u32, bytes: &[u8]) -> Result<(Block, &[u8]), ParseError>
     requires { depth ≤ most_brackets }
-    ensures found { IfOk result (λ r. Reads depth (symbols.Commands ∷ []) (CommandsAt (block_of r.0)) (depth - 1) [] bytes.now r.1.now) }
-    ensures fault { IfErr result (λ e. Fails depth (symbols.Commands ∷ []) bytes.now e) }
+    ensures found { FindsClosing depth (symbols.Commands ∷ []) BlockFrom bytes.now result }
+    ensures fault { Refuses depth (symbols.Commands ∷ []) bytes.now result }
 {
     let mut commands = Items::new(alloc);
     let (mut token, mut rest) = expect_token(Symbol::Commands, depth, bytes)?;
@@ -62,8 +61,8 @@ fn command<'a>(
     requires depth { depth ≤ most_brackets }
     requires took { Took depth symbols.Commands (token_of token) bytes.now }
     requires begins { begins_command (token_of token) ≡ true }
-    ensures found { IfOk result (λ r. ReadsUpTo depth (coming symbols.Commands (token_of token.entry)) (λ more. After (Stands (token_of token.entry)) (CommandsAt (Then (command_of r.0) (chain more)))) (token_of r.1) bytes.now r.2.now) }
-    ensures fault { IfErr result (λ e. Fails depth (coming symbols.Commands (token_of token.entry)) bytes.now e) }
+    ensures found { FindsCommandUpTo depth (token_of token.entry) bytes.now result }
+    ensures fault { Refuses depth (rest_of_commands (token_of token.entry)) bytes.now result }
 {
     if let Token::If = token {
         return choice(alloc, depth, bytes);
@@ -77,8 +76,8 @@ fn command<'a>(
 #[cycle(block)]
 fn choice(alloc: Global, depth: u32, bytes: &[u8]) -> Result<(Cmd, Token, &[u8]), ParseError>
     requires { depth ≤ most_brackets }
-    ensures found { IfOk result (λ r. ReadsUpTo depth (symbols.Expr ∷ symbols.Block ∷ symbols.AfterIf ∷ []) (λ more. After (Stands If) (CommandsAt (Then (command_of r.0) (chain more)))) (token_of r.1) bytes.now r.2.now) }
-    ensures fault { IfErr result (λ e. Fails depth (symbols.Expr ∷ symbols.Block ∷ symbols.AfterIf ∷ []) bytes.now e) }
+    ensures found { FindsUpTo depth rest_of_if (CommandsFrom If) bytes.now result }
+    ensures fault { Refuses depth rest_of_if bytes.now result }
 {
     let (condition, rest) = term(alloc, depth, bytes)?;
     let (yes, rest) = block(alloc, depth, rest)?;
@@ -90,8 +89,8 @@ fn choice(alloc: Global, depth: u32, bytes: &[u8]) -> Result<(Cmd, Token, &[u8])
 #[cycle(block)]
 fn otherwise(alloc: Global, depth: u32, bytes: &[u8]) -> Result<(Block, Token, &[u8]), ParseError>
     requires { depth ≤ most_brackets }
-    ensures found { IfOk result (λ r. ReadsUpTo depth (symbols.AfterIf ∷ []) (λ more. ElseAt (block_of r.0) then CommandsAt (chain more)) (token_of r.1) bytes.now r.2.now) }
-    ensures fault { IfErr result (λ e. Fails depth (symbols.AfterIf ∷ []) bytes.now e) }
+    ensures found { FindsUpTo depth (symbols.AfterIf ∷ []) ElseAndCommands bytes.now result }
+    ensures fault { Refuses depth (symbols.AfterIf ∷ []) bytes.now result }
 {
     let (token, rest) = expect_token(Symbol::AfterIf, depth, bytes)?;
     let Token::Else = token else {
@@ -114,8 +113,8 @@ fn plain_command<'a>(
     requires depth { depth ≤ most_brackets }
     requires took { Took depth symbols.Commands (token_of token) bytes.now }
     requires begins { begins_plain (token_of token) ≡ true }
-    ensures found { IfOk result (λ r. Reads depth (coming symbols.Commands (token_of token.entry)) (After (Stands (token_of token.entry)) (CommandAt (command_of r.0))) depth (symbols.Commands ∷ []) bytes.now r.1.now) }
-    ensures fault { IfErr result (λ e. Fails depth (coming symbols.Commands (token_of token.entry)) bytes.now e) }
+    ensures found { FindsCommand depth (token_of token.entry) bytes.now result }
+    ensures fault { Refuses depth (rest_of_commands (token_of token.entry)) bytes.now result }
 {
     match token {
         Token::Skip => Ok((Cmd::Skip, sign(Symbol::Semicolon, depth, bytes)?)),
@@ -139,8 +138,8 @@ fn plain_command<'a>(
 #[cycle(block)]
 fn repetition(alloc: Global, depth: u32, bytes: &[u8]) -> Result<(Cmd, &[u8]), ParseError>
     requires { depth ≤ most_brackets }
-    ensures found { IfOk result (λ r. Reads depth (symbols.Expr ∷ symbols.Block ∷ []) (After (Stands While) (CommandAt (command_of r.0))) depth [] bytes.now r.1.now) }
-    ensures fault { IfErr result (λ e. Fails depth (symbols.Expr ∷ symbols.Block ∷ []) bytes.now e) }
+    ensures found { Finds depth rest_of_while (CommandFrom While) bytes.now result }
+    ensures fault { Refuses depth rest_of_while bytes.now result }
 {
     let (condition, rest) = term(alloc, depth, bytes)?;
     let (body, rest) = block(alloc, depth, rest)?;
@@ -151,8 +150,8 @@ fn repetition(alloc: Global, depth: u32, bytes: &[u8]) -> Result<(Cmd, &[u8]), P
 #[cycle(block)]
 fn allocation(alloc: Global, depth: u32, bytes: &[u8]) -> Result<(Cmd, &[u8]), ParseError>
     requires { depth ≤ most_brackets }
-    ensures found { IfOk result (λ r. Reads depth (symbols.Number ∷ symbols.As ∷ symbols.Name ∷ symbols.Block ∷ []) (After (Stands StackAlloc) (CommandAt (command_of r.0))) depth [] bytes.now r.1.now) }
-    ensures fault { IfErr result (λ e. Fails depth (symbols.Number ∷ symbols.As ∷ symbols.Name ∷ symbols.Block ∷ []) bytes.now e) }
+    ensures found { Finds depth rest_of_allocation (CommandFrom StackAlloc) bytes.now result }
+    ensures fault { Refuses depth rest_of_allocation bytes.now result }
 {
     let (size, rest) = number(depth, bytes)?;
     let rest = sign(Symbol::As, depth, rest)?;

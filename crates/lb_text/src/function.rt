@@ -1,10 +1,8 @@
 // Functions.
-ghost use Rattle.std.specs.Prelude.{◌≡◌, ◌∷◌, [], IfOk, IfErr};
-ghost use Rattle.lb_syntax.specs.Tree.{procedure_of, block_of};
+ghost use Rattle.std.specs.Prelude.{◌∷◌, []};
 ghost use Rattle.lb_spelling.specs.declared.symbol.Symbol.TheVariants as symbols;
-ghost use Rattle.lb_spelling.specs.Tokens.{Fn, Arrow, Stands};
-ghost use Rattle.lb_spelling.specs.Grammar.{◌then◌, BlockAt, ResultsAt, FunctionAt};
-ghost use Rattle.lb_text.specs.InternalReading.{Reads, Fails, After};
+ghost use Rattle.lb_spelling.specs.Tokens.{Fn, Arrow};
+ghost use Rattle.lb_text.specs.InternalFindings.{rest_of_results, rest_of_function, ResultsFrom, ResultsAndBody, FunctionFrom, Finds, FindsBoth, Refuses};
 
 use crate::command::{block, commands};
 use crate::names::{more_names, name, one, params};
@@ -18,8 +16,8 @@ use std::alloc::Global;
 
 /// The function whose keyword `fn` was read, and what follows it.
 pub fn function(alloc: Global, bytes: &[u8]) -> Result<(Function, &[u8]), ParseError>
-    ensures found { IfOk result (λ r. Reads 0 (symbols.Name ∷ symbols.OpenParen ∷ symbols.Names ∷ symbols.Results ∷ []) (After (Stands Fn) (FunctionAt (procedure_of r.0))) 0 [] bytes.now r.1.now) }
-    ensures fault { IfErr result (λ e. Fails 0 (symbols.Name ∷ symbols.OpenParen ∷ symbols.Names ∷ symbols.Results ∷ []) bytes.now e) }
+    ensures found { Finds 0 rest_of_function (FunctionFrom Fn) bytes.now result }
+    ensures fault { Refuses 0 rest_of_function bytes.now result }
 {
     let (name, rest) = name(alloc, 0, bytes)?;
     let rest = sign(Symbol::OpenParen, 0, rest)?;
@@ -36,8 +34,8 @@ pub fn function(alloc: Global, bytes: &[u8]) -> Result<(Function, &[u8]), ParseE
 
 // The results and the body, and what follows them.
 fn results_and_body(alloc: Global, bytes: &[u8]) -> Result<(Items<Name>, Block, &[u8]), ParseError>
-    ensures found { IfOk result (λ r. Reads 0 (symbols.Results ∷ []) (ResultsAt r.0 then BlockAt (block_of r.1)) 0 [] bytes.now r.2.now) }
-    ensures fault { IfErr result (λ e. Fails 0 (symbols.Results ∷ []) bytes.now e) }
+    ensures found { FindsBoth 0 (symbols.Results ∷ []) ResultsAndBody bytes.now result }
+    ensures fault { Refuses 0 (symbols.Results ∷ []) bytes.now result }
 {
     let (token, rest) = expect_token(Symbol::Results, 0, bytes)?;
     let Token::Arrow = token else {
@@ -51,8 +49,8 @@ fn results_and_body(alloc: Global, bytes: &[u8]) -> Result<(Items<Name>, Block, 
 
 // The results whose arrow was read, and what follows them.
 fn results(alloc: Global, bytes: &[u8]) -> Result<(Items<Name>, &[u8]), ParseError>
-    ensures found { IfOk result (λ r. Reads 0 (symbols.OpenParen ∷ symbols.Name ∷ symbols.MoreNames ∷ []) (After (Stands Arrow) (ResultsAt r.0)) 0 [] bytes.now r.1.now) }
-    ensures fault { IfErr result (λ e. Fails 0 (symbols.OpenParen ∷ symbols.Name ∷ symbols.MoreNames ∷ []) bytes.now e) }
+    ensures found { Finds 0 rest_of_results (ResultsFrom Arrow) bytes.now result }
+    ensures fault { Refuses 0 rest_of_results bytes.now result }
 {
     let rest = sign(Symbol::OpenParen, 0, bytes)?;
     let (first, rest) = name(alloc, 1, rest)?;

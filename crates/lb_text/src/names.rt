@@ -1,12 +1,11 @@
 // Names and lists of names.
-ghost use Rattle.std.specs.Prelude.{◌≡◌, ◌≤◌, ◌-◌, ◌∷◌, [], true, IfOk, IfErr};
+ghost use Rattle.std.specs.Prelude.{◌≡◌, ◌≤◌, ◌∷◌, [], true, IfOk};
 ghost use Rattle.lb_syntax.specs.Names.{IsName};
 ghost use Rattle.lb_syntax.specs.Brackets.{most_brackets};
 ghost use Rattle.lb_spelling.specs.declared.symbol.Symbol.TheVariants as symbols;
-ghost use Rattle.lb_spelling.specs.Tokens.{CloseParen, Stands};
-ghost use Rattle.lb_spelling.specs.Grammar.{◌then◌, NameAt, NamesAt};
-ghost use Rattle.lb_text.specs.declared.parse_error.ParseError.TheVariants.{Memory};
-ghost use Rattle.lb_text.specs.InternalReading.{Reads, Fails, ReadsMore, ends_names};
+ghost use Rattle.lb_spelling.specs.Grammar.{NameAt};
+ghost use Rattle.lb_text.specs.InternalReading.{ends_names};
+ghost use Rattle.lb_text.specs.InternalFindings.{ClosedNames, Finds, FindsClosing, FindsMoreNames, Refuses};
 
 use crate::parse_error::ParseError;
 use crate::token::expect_token;
@@ -31,8 +30,8 @@ pub fn checked(alloc: Global, bytes: &[u8]) -> Result<Name, AllocError>
 /// The name at the front, and what follows it.
 pub fn name(alloc: Global, depth: u32, bytes: &[u8]) -> Result<(Name, &[u8]), ParseError>
     requires { depth ≤ most_brackets }
-    ensures found { IfOk result (λ r. Reads depth (symbols.Name ∷ []) (NameAt r.0) depth [] bytes.now r.1.now) }
-    ensures fault { IfErr result (λ e. Fails depth (symbols.Name ∷ []) bytes.now e) }
+    ensures found { Finds depth (symbols.Name ∷ []) NameAt bytes.now result }
+    ensures fault { Refuses depth (symbols.Name ∷ []) bytes.now result }
 {
     let (token, rest) = expect_token(Symbol::Name, depth, bytes)?;
     let Token::Name(spelling) = token else {
@@ -53,8 +52,8 @@ pub fn one(alloc: Global, name: Name) -> Result<Items<Name>, AllocError>
 /// The parameters from behind the bracket before them on, and what follows the bracket behind them.
 pub fn params(alloc: Global, depth: u32, bytes: &[u8]) -> Result<(Items<Name>, &[u8]), ParseError>
     requires { depth ≤ most_brackets }
-    ensures found { IfOk result (λ r. Reads depth (symbols.Names ∷ []) (NamesAt r.0 then Stands CloseParen) (depth - 1) [] bytes.now r.1.now) }
-    ensures fault { IfErr result (λ e. Fails depth (symbols.Names ∷ []) bytes.now e) }
+    ensures found { FindsClosing depth (symbols.Names ∷ []) ClosedNames bytes.now result }
+    ensures fault { Refuses depth (symbols.Names ∷ []) bytes.now result }
 {
     let (token, rest) = expect_token(Symbol::Names, depth, bytes)?;
     match token {
@@ -78,8 +77,8 @@ pub fn more_names(
 ) -> Result<(Items<Name>, &[u8]), ParseError>
     requires depth { depth ≤ most_brackets }
     requires more { ends_names more ≡ true }
-    ensures found { IfOk result (λ r. ReadsMore depth more names r.0 bytes.now r.1.now) }
-    ensures fault { IfErr result (λ e. Fails depth (more ∷ []) bytes.now e) }
+    ensures found { FindsMoreNames depth more names bytes.now result }
+    ensures fault { Refuses depth (more ∷ []) bytes.now result }
 {
     let mut names = names;
     let mut rest = bytes;

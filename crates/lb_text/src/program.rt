@@ -1,11 +1,11 @@
 // The whole text.
-ghost use Rattle.std.specs.Prelude.{◌≡◌, ◌<◌, ◌^◌, List, [], ◌∷◌, length, map, IfOk, IfErr};
-ghost use Rattle.lb_syntax.specs.Tree.{Procedure, procedure_of, program_of};
+ghost use Rattle.std.specs.Prelude.{◌<◌, ◌^◌, [], ◌∷◌, length, map, IfOk, IfErr};
+ghost use Rattle.lb_syntax.specs.Tree.{procedure_of, program_of};
 ghost use Rattle.lb_spelling.specs.declared.symbol.Symbol.TheVariants as symbols;
-ghost use Rattle.lb_spelling.specs.Grammar.{IsText};
 ghost use Rattle.lb_spelling.specs.Places.{IsAccepted};
+ghost use Rattle.lb_printing.specs.Printed.{IsTextOfNoOther};
 ghost use Rattle.lb_text.specs.Refusal.{RefusedBy, FaultOf};
-ghost use Rattle.lb_text.specs.InternalReading.{Fails};
+ghost use Rattle.lb_text.specs.InternalFindings.{Refuses};
 
 use crate::error::ReadError;
 use crate::function::function;
@@ -23,7 +23,7 @@ pub fn read_program(alloc: Global, bytes: &[u8]) -> Result<Program, ReadError>
     // The text is the program's, and no more than 64 brackets are open anywhere.
     ensures found { IfOk result (λ program. IsAccepted (program_of program) bytes.now) }
     // It is no other program's.
-    ensures only { IfOk result (λ program. (p : List Procedure) → IsText p bytes.now → p ≡ program_of program) }
+    ensures only { IfOk result (λ program. IsTextOfNoOther (program_of program) bytes.now) }
     // A text that is refused is accepted as no program.
     ensures refused { IfErr result (λ e. RefusedBy e bytes.now) }
     // Where it is refused, and why.
@@ -45,7 +45,7 @@ pub fn read_program(alloc: Global, bytes: &[u8]) -> Result<Program, ReadError>
 // The functions that the text is.
 fn functions(alloc: Global, bytes: &[u8]) -> Result<Items<Function>, ParseError>
     ensures found { IfOk result (λ functions. IsAccepted (map procedure_of functions) bytes.now) }
-    ensures fault { IfErr result (λ e. Fails 0 (symbols.Functions ∷ []) bytes.now e) }
+    ensures fault { Refuses 0 (symbols.Functions ∷ []) bytes.now result }
 {
     let mut functions = Items::new(alloc);
     let mut rest = bytes;

@@ -1,13 +1,12 @@
 // Commands without blocks.
-ghost use Rattle.std.specs.Prelude.{◌≡◌, ◌≤◌, ◌∷◌, ◌++◌, [], IfOk, IfErr};
+ghost use Rattle.std.specs.Prelude.{◌≤◌, ◌∷◌, []};
 ghost use Rattle.lb_syntax.specs.Brackets.{most_brackets};
-ghost use Rattle.lb_syntax.specs.Tree.{command_of};
 ghost use Rattle.lb_spelling.specs.declared.symbol.Symbol.TheVariants as symbols;
-ghost use Rattle.lb_spelling.specs.Tokens.{Named, Unset, Store, Device, Comma, Becomes, Stands};
-ghost use Rattle.lb_spelling.specs.Grammar.{◌then◌, TargetsAt, CommandAt};
-ghost use Rattle.lb_spelling.specs.InternalMachine.{opened, call};
+ghost use Rattle.lb_spelling.specs.Tokens.{Named, Unset, Store};
+ghost use Rattle.lb_spelling.specs.InternalMachine.{call};
 ghost use Rattle.lb_scan.specs.Tokens.{token_of};
-ghost use Rattle.lb_text.specs.InternalReading.{Reads, Fails, After, Took, coming, token_of_callee};
+ghost use Rattle.lb_text.specs.InternalReading.{Took};
+ghost use Rattle.lb_text.specs.InternalFindings.{rest_of_unset, rest_of_store, rest_of_named, rest_of_targets, rest_of_source, rest_of_value, CalleeAt, CommandFrom, CallOfTargets, CallFrom, AssignmentTo, AssignmentOf, Finds, FindsLeaving, FindsAssignment, Refuses, RefusesFrom};
 
 use crate::call::{Callee, call};
 use crate::names::{checked, more_names, name, one};
@@ -23,8 +22,8 @@ use std::alloc::Global;
 /// The `unset` whose keyword was read, and what follows it.
 pub fn unset(alloc: Global, depth: u32, bytes: &[u8]) -> Result<(Cmd, &[u8]), ParseError>
     requires { depth ≤ most_brackets }
-    ensures found { IfOk result (λ r. Reads depth (symbols.Name ∷ symbols.Semicolon ∷ []) (After (Stands Unset) (CommandAt (command_of r.0))) depth [] bytes.now r.1.now) }
-    ensures fault { IfErr result (λ e. Fails depth (symbols.Name ∷ symbols.Semicolon ∷ []) bytes.now e) }
+    ensures found { Finds depth rest_of_unset (CommandFrom Unset) bytes.now result }
+    ensures fault { Refuses depth rest_of_unset bytes.now result }
 {
     let (target, rest) = name(alloc, depth, bytes)?;
     let rest = sign(Symbol::Semicolon, depth, rest)?;
@@ -39,8 +38,8 @@ pub fn store(
     bytes: &[u8],
 ) -> Result<(Cmd, &[u8]), ParseError>
     requires { depth ≤ most_brackets }
-    ensures found { IfOk result (λ r. Reads depth (symbols.OpenParen ∷ symbols.Expr ∷ symbols.Comma ∷ symbols.Expr ∷ symbols.CloseParen ∷ symbols.Semicolon ∷ []) (After (Stands (Store width)) (CommandAt (command_of r.0))) depth [] bytes.now r.1.now) }
-    ensures fault { IfErr result (λ e. Fails depth (symbols.OpenParen ∷ symbols.Expr ∷ symbols.Comma ∷ symbols.Expr ∷ symbols.CloseParen ∷ symbols.Semicolon ∷ []) bytes.now e) }
+    ensures found { Finds depth rest_of_store (CommandFrom (Store width)) bytes.now result }
+    ensures fault { Refuses depth rest_of_store bytes.now result }
 {
     let rest = sign(Symbol::OpenParen, depth, bytes)?;
     let (address, rest) = term(alloc, depth + 1, rest)?;
@@ -67,8 +66,8 @@ pub fn call_of(
     bytes: &[u8],
 ) -> Result<(Cmd, &[u8]), ParseError>
     requires { depth ≤ most_brackets }
-    ensures found { IfOk result (λ r. Reads depth call (After (TargetsAt targets then Stands (token_of_callee callee)) (CommandAt (command_of r.0))) depth [] bytes.now r.1.now) }
-    ensures fault { IfErr result (λ e. Fails depth call bytes.now e) }
+    ensures found { Finds depth call (CallFrom targets callee) bytes.now result }
+    ensures fault { Refuses depth call bytes.now result }
 {
     let rest = sign(Symbol::OpenParen, depth, bytes)?;
     call(alloc, depth + 1, targets, callee, rest)
@@ -82,8 +81,8 @@ pub fn named(
     bytes: &[u8],
 ) -> Result<(Cmd, &[u8]), ParseError>
     requires { depth ≤ most_brackets }
-    ensures found { IfOk result (λ r. Reads depth (symbols.AfterName ∷ []) (After (Stands (Named first)) (CommandAt (command_of r.0))) depth [] bytes.now r.1.now) }
-    ensures fault { IfErr result (λ e. Fails depth (symbols.AfterName ∷ []) bytes.now e) }
+    ensures found { Finds depth rest_of_named (CommandFrom (Named first)) bytes.now result }
+    ensures fault { Refuses depth rest_of_named bytes.now result }
 {
     let (token, rest) = expect_token(Symbol::AfterName, depth, bytes)?;
     match token {
@@ -108,8 +107,8 @@ fn call_of_targets(
     bytes: &[u8],
 ) -> Result<(Cmd, &[u8]), ParseError>
     requires { depth ≤ most_brackets }
-    ensures found { IfOk result (λ r. Reads depth (symbols.Name ∷ symbols.MoreTargets ∷ []) (After (Stands (Named first) then Stands Comma) (CommandAt (command_of r.0))) depth [] bytes.now r.1.now) }
-    ensures fault { IfErr result (λ e. Fails depth (symbols.Name ∷ symbols.MoreTargets ∷ []) bytes.now e) }
+    ensures found { Finds depth rest_of_targets (CallOfTargets first) bytes.now result }
+    ensures fault { Refuses depth rest_of_targets bytes.now result }
 {
     let mut targets = one(alloc, first)?;
     let (second, rest) = name(alloc, depth, bytes)?;
@@ -122,8 +121,8 @@ fn call_of_targets(
 // What is called, and what follows it.
 fn callee(alloc: Global, depth: u32, bytes: &[u8]) -> Result<(Callee, &[u8]), ParseError>
     requires { depth ≤ most_brackets }
-    ensures found { IfOk result (λ r. Reads depth (symbols.Callee ∷ []) (Stands (token_of_callee r.0)) depth call bytes.now r.1.now) }
-    ensures fault { IfErr result (λ e. Fails depth (symbols.Callee ∷ []) bytes.now e) }
+    ensures found { FindsLeaving depth (symbols.Callee ∷ []) CalleeAt call bytes.now result }
+    ensures fault { Refuses depth (symbols.Callee ∷ []) bytes.now result }
 {
     let (token, rest) = expect_token(Symbol::Callee, depth, bytes)?;
     match token {
@@ -141,8 +140,8 @@ fn assignment(
     bytes: &[u8],
 ) -> Result<(Cmd, &[u8]), ParseError>
     requires { depth ≤ most_brackets }
-    ensures found { IfOk result (λ r. Reads depth (symbols.Source ∷ []) (After (Stands (Named target) then Stands Becomes) (CommandAt (command_of r.0))) depth [] bytes.now r.1.now) }
-    ensures fault { IfErr result (λ e. Fails depth (symbols.Source ∷ []) bytes.now e) }
+    ensures found { Finds depth (symbols.Source ∷ []) (AssignmentTo target) bytes.now result }
+    ensures fault { Refuses depth (symbols.Source ∷ []) bytes.now result }
 {
     let (token, rest) = expect_token(Symbol::Source, depth, bytes)?;
     match token {
@@ -167,8 +166,8 @@ fn from_name(
     bytes: &[u8],
 ) -> Result<(Cmd, &[u8]), ParseError>
     requires { depth ≤ most_brackets }
-    ensures found { IfOk result (λ r. Reads depth (symbols.AfterSource ∷ []) (After (Stands (Named target) then Stands Becomes then Stands (Named source)) (CommandAt (command_of r.0))) depth [] bytes.now r.1.now) }
-    ensures fault { IfErr result (λ e. Fails depth (symbols.AfterSource ∷ []) bytes.now e) }
+    ensures found { Finds depth rest_of_source (AssignmentOf target source) bytes.now result }
+    ensures fault { Refuses depth rest_of_source bytes.now result }
 {
     let (token, rest) = expect_token(Symbol::AfterSource, depth, bytes)?;
     match token {
@@ -200,8 +199,8 @@ fn from_term<'a>(
 ) -> Result<(Cmd, &'a [u8]), ParseError>
     requires depth { depth ≤ most_brackets }
     requires took { Took depth symbols.Expr (token_of token) bytes.now }
-    ensures found { IfOk result (λ r. Reads (opened (token_of token.entry) depth) (coming symbols.Expr (token_of token.entry) ++ symbols.Semicolon ∷ []) (After (Stands (Named target) then Stands Becomes then Stands (token_of token.entry)) (CommandAt (command_of r.0))) depth [] bytes.now r.1.now) }
-    ensures fault { IfErr result (λ e. Fails (opened (token_of token.entry) depth) (coming symbols.Expr (token_of token.entry) ++ symbols.Semicolon ∷ []) bytes.now e) }
+    ensures found { FindsAssignment depth target (token_of token.entry) bytes.now result }
+    ensures fault { RefusesFrom depth (token_of token.entry) rest_of_value bytes.now result }
 {
     let (value, rest) = term_from(alloc, depth, token, bytes)?;
     let rest = sign(Symbol::Semicolon, depth, rest)?;

@@ -1,13 +1,11 @@
 // Expressions.
-ghost use Rattle.std.specs.Prelude.{◌≡◌, ◌≤◌, ◌+◌, ◌-◌, ◌∷◌, [], true, IfOk, IfErr, is_some};
+ghost use Rattle.std.specs.Prelude.{◌≤◌, ◌∷◌, []};
 ghost use Rattle.lb_syntax.specs.Brackets.{most_brackets};
-ghost use Rattle.lb_syntax.specs.Tree.{term_of};
 ghost use Rattle.lb_spelling.specs.declared.symbol.Symbol.TheVariants as symbols;
-ghost use Rattle.lb_spelling.specs.Tokens.{OpenParen, Load, Sign, Stands};
-ghost use Rattle.lb_spelling.specs.Grammar.{TermAt};
-ghost use Rattle.lb_spelling.specs.InternalMachine.{next, opened};
+ghost use Rattle.lb_spelling.specs.Tokens.{OpenParen, Load};
 ghost use Rattle.lb_scan.specs.Tokens.{token_of};
-ghost use Rattle.lb_text.specs.InternalReading.{Reads, Fails, ReadsFrom, FailsFrom, Took, After};
+ghost use Rattle.lb_text.specs.InternalReading.{Took};
+ghost use Rattle.lb_text.specs.InternalFindings.{rest_of_expr, rest_of_load, rest_of_operation, SignAt, ExprAt, ExprFrom, Finds, FindsClosing, FindsFrom, Refuses, RefusesFrom};
 
 use crate::names::checked;
 use crate::parse_error::ParseError;
@@ -22,8 +20,8 @@ use std::alloc::Global;
 #[cycle(term)]
 pub fn term(alloc: Global, depth: u32, bytes: &[u8]) -> Result<(Expr, &[u8]), ParseError>
     requires { depth ≤ most_brackets }
-    ensures found { IfOk result (λ r. Reads depth (symbols.Expr ∷ []) (TermAt (term_of r.0)) depth [] bytes.now r.1.now) }
-    ensures fault { IfErr result (λ e. Fails depth (symbols.Expr ∷ []) bytes.now e) }
+    ensures found { Finds depth (symbols.Expr ∷ []) ExprAt bytes.now result }
+    ensures fault { Refuses depth (symbols.Expr ∷ []) bytes.now result }
 {
     let (token, rest) = expect_token(Symbol::Expr, depth, bytes)?;
     term_from(alloc, depth, token, rest)
@@ -39,8 +37,8 @@ pub fn term_from<'a>(
 ) -> Result<(Expr, &'a [u8]), ParseError>
     requires depth { depth ≤ most_brackets }
     requires took { Took depth symbols.Expr (token_of token) bytes.now }
-    ensures found { IfOk result (λ r. ReadsFrom depth symbols.Expr (token_of token.entry) (TermAt (term_of r.0)) depth [] bytes.now r.1.now) }
-    ensures fault { IfErr result (λ e. FailsFrom depth symbols.Expr (token_of token.entry) bytes.now e) }
+    ensures found { FindsFrom depth (token_of token.entry) rest_of_expr ExprFrom bytes.now result }
+    ensures fault { RefusesFrom depth (token_of token.entry) rest_of_expr bytes.now result }
 {
     match token {
         Token::Number(value) => Ok((Expr::Literal(value), bytes)),
@@ -55,8 +53,8 @@ pub fn term_from<'a>(
 #[cycle(term)]
 fn load(alloc: Global, depth: u32, width: Width, bytes: &[u8]) -> Result<(Expr, &[u8]), ParseError>
     requires { depth ≤ most_brackets }
-    ensures found { IfOk result (λ r. Reads depth (symbols.OpenParen ∷ symbols.Expr ∷ symbols.CloseParen ∷ []) (After (Stands (Load width)) (TermAt (term_of r.0))) depth [] bytes.now r.1.now) }
-    ensures fault { IfErr result (λ e. Fails depth (symbols.OpenParen ∷ symbols.Expr ∷ symbols.CloseParen ∷ []) bytes.now e) }
+    ensures found { Finds depth rest_of_load (ExprFrom (Load width)) bytes.now result }
+    ensures fault { Refuses depth rest_of_load bytes.now result }
 {
     let rest = sign(Symbol::OpenParen, depth, bytes)?;
     let (address, rest) = term(alloc, depth + 1, rest)?;
@@ -70,8 +68,8 @@ fn load(alloc: Global, depth: u32, width: Width, bytes: &[u8]) -> Result<(Expr, 
 fn operation(alloc: Global, depth: u32, bytes: &[u8]) -> Result<(Expr, &[u8]), ParseError>
     requires some { 1 ≤ depth }
     requires few { depth ≤ most_brackets }
-    ensures found { IfOk result (λ r. Reads depth (symbols.Expr ∷ symbols.Sign ∷ symbols.Expr ∷ symbols.CloseParen ∷ []) (After (Stands OpenParen) (TermAt (term_of r.0))) (depth - 1) [] bytes.now r.1.now) }
-    ensures fault { IfErr result (λ e. Fails depth (symbols.Expr ∷ symbols.Sign ∷ symbols.Expr ∷ symbols.CloseParen ∷ []) bytes.now e) }
+    ensures found { FindsClosing depth rest_of_operation (ExprFrom OpenParen) bytes.now result }
+    ensures fault { Refuses depth rest_of_operation bytes.now result }
 {
     let (left, rest) = term(alloc, depth, bytes)?;
     let (op, rest) = operator(depth, rest)?;
@@ -85,8 +83,8 @@ fn operation(alloc: Global, depth: u32, bytes: &[u8]) -> Result<(Expr, &[u8]), P
 // The sign of an operation at the front, and what follows it.
 fn operator(depth: u32, bytes: &[u8]) -> Result<(Op, &[u8]), ParseError>
     requires { depth ≤ most_brackets }
-    ensures found { IfOk result (λ r. Reads depth (symbols.Sign ∷ []) (Stands (Sign r.0)) depth [] bytes.now r.1.now) }
-    ensures fault { IfErr result (λ e. Fails depth (symbols.Sign ∷ []) bytes.now e) }
+    ensures found { Finds depth (symbols.Sign ∷ []) SignAt bytes.now result }
+    ensures fault { Refuses depth (symbols.Sign ∷ []) bytes.now result }
 {
     let (token, rest) = expect_token(Symbol::Sign, depth, bytes)?;
     let Token::Sign(op) = token else {

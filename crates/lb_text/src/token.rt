@@ -1,12 +1,10 @@
 // Single tokens.
-ghost use Rattle.std.specs.Prelude.{◌≡◌, ℕ, ◌≤◌, ◌∷◌, [], true, false, IfOk, IfErr};
+ghost use Rattle.std.specs.Prelude.{◌≡◌, ◌≤◌, ◌∷◌, [], true, false};
 ghost use Rattle.lb_syntax.specs.Brackets.{most_brackets};
-ghost use Rattle.lb_spelling.specs.Tokens.{Stands, Numeral};
 ghost use Rattle.lb_spelling.specs.declared.symbol.Symbol.TheVariants as symbols;
-ghost use Rattle.lb_spelling.specs.InternalMachine.{Stack, ends, opened};
-ghost use Rattle.lb_spelling.specs.InternalParsing.{Takes};
-ghost use Rattle.lb_scan.specs.Tokens.{token_of};
-ghost use Rattle.lb_text.specs.InternalReading.{Reads, Fails, sign_of, is_sign};
+ghost use Rattle.lb_spelling.specs.InternalMachine.{Stack, ends};
+ghost use Rattle.lb_text.specs.InternalReading.{is_sign};
+ghost use Rattle.lb_text.specs.InternalFindings.{NumeralAt, Finds, FindsToken, FindsSign, Refuses};
 
 use crate::parse_error::ParseError;
 use lb_scan::{Token, scan};
@@ -20,8 +18,8 @@ pub fn expect_token(
 ) -> Result<(Token, &[u8]), ParseError>
     requires depth { depth ≤ most_brackets }
     requires more { (k : Stack) → ends (expected ∷ k) ≡ false }
-    ensures found { IfOk result (λ r. Takes depth expected (token_of r.0) bytes.now r.1.now) }
-    ensures fault { IfErr result (λ e. Fails depth (expected ∷ []) bytes.now e) }
+    ensures found { FindsToken depth expected bytes.now result }
+    ensures fault { Refuses depth (expected ∷ []) bytes.now result }
 {
     Ok(scan(expected, depth, bytes)?)
 }
@@ -30,8 +28,8 @@ pub fn expect_token(
 pub fn sign(expected: Symbol, depth: u32, bytes: &[u8]) -> Result<&[u8], ParseError>
     requires depth { depth ≤ most_brackets }
     requires sign { is_sign expected ≡ true }
-    ensures found { IfOk result (λ rest. Reads depth (expected ∷ []) (Stands (sign_of expected)) (opened (sign_of expected) depth) [] bytes.now rest.now) }
-    ensures fault { IfErr result (λ e. Fails depth (expected ∷ []) bytes.now e) }
+    ensures found { FindsSign depth expected bytes.now result }
+    ensures fault { Refuses depth (expected ∷ []) bytes.now result }
 {
     let (_, rest) = expect_token(expected, depth, bytes)?;
     Ok(rest)
@@ -40,8 +38,8 @@ pub fn sign(expected: Symbol, depth: u32, bytes: &[u8]) -> Result<&[u8], ParseEr
 /// The number at the front, and what follows it.
 pub fn number(depth: u32, bytes: &[u8]) -> Result<(u32, &[u8]), ParseError>
     requires { depth ≤ most_brackets }
-    ensures found { IfOk result (λ r. Reads depth (symbols.Number ∷ []) (Stands (Numeral r.0)) depth [] bytes.now r.1.now) }
-    ensures fault { IfErr result (λ e. Fails depth (symbols.Number ∷ []) bytes.now e) }
+    ensures found { Finds depth (symbols.Number ∷ []) NumeralAt bytes.now result }
+    ensures fault { Refuses depth (symbols.Number ∷ []) bytes.now result }
 {
     let (token, rest) = expect_token(Symbol::Number, depth, bytes)?;
     let Token::Number(value) = token else {
