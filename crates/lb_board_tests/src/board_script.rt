@@ -1,10 +1,8 @@
 // Lines of a script for the board.
-ghost use Rattle.std.specs.Prelude.{IfOk, OnOk};
-ghost use Rattle.lb_board.specs.Script.{IsScript};
-
 use crate::stop::Stop;
 use lb_board::Board;
-use lb_trace::{Frame, Kind};
+use lb_board_testkit::script;
+use lb_trace::Kind;
 use lb_trace_testkit::kinds::KINDS;
 use std::alloc::Global;
 
@@ -15,30 +13,6 @@ const RXDATA: u32 = 0x1002_404C;
 /// A board at boot, with frames of the bytes that the texts tell; one of five bytes is faulty.
 pub fn board(alloc: Global, texts: &str) -> Result<Board, Stop> {
     Ok(Board::boot(alloc, script(alloc, texts)?)?)
-}
-
-// The frames of the script.
-fn script(alloc: Global, texts: &str) -> Result<Vec<Frame>, Stop>
-    ensures { IfOk result (λ frames. IsScript frames.items) }
-{
-    let mut frames = Vec::new(alloc);
-    for text in texts.split_whitespace() {
-        add_frame(&mut frames, hex::decode(alloc, text)?)?;
-    }
-    Ok(frames)
-}
-
-// Adds a frame to the script, where it still is one.
-fn add_frame(frames: &mut Vec<Frame>, bytes: Vec<u8>) -> Result<(), Stop>
-    requires { IsScript frames.old.items }
-    ensures { OnOk result (IsScript frames.new.items) }
-{
-    let length = bytes.len();
-    if frames.len() >= 64 || length == 0 || length > 2000 {
-        return Err(Stop::Line);
-    }
-    frames.push(Frame::new(bytes, length == 5))?;
-    Ok(())
 }
 
 /// Does what the line says, and answers what is told of it.

@@ -1,6 +1,6 @@
 // Why a line of a script has no answer.
 use hex::FromHexError;
-use lb_trace::Frame;
+use lb_board_testkit::ScriptFault;
 use std::alloc::{AllocError, AllocFailed};
 
 /// Why a line of a script has no answer.
@@ -26,9 +26,12 @@ impl From<AllocFailed<u8>> for Stop {
     }
 }
 
-impl From<AllocFailed<Frame>> for Stop {
-    fn from(_: AllocFailed<Frame>) -> Self {
-        Stop::Memory
+impl From<ScriptFault> for Stop {
+    fn from(fault: ScriptFault) -> Self {
+        match fault {
+            ScriptFault::Text => Stop::Line,
+            ScriptFault::Memory => Stop::Memory,
+        }
     }
 }
 

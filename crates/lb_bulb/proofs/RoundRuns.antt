@@ -5,6 +5,7 @@ use Rattle.lb_word.specs.Word.{eq_of, slu_of, ltu_of}
 use Rattle.lb_syntax.specs.Tree.{Term, Number, Variable, Operation, Ends, Sets, Chooses, chain}
 use Rattle.lb_syntax.specs.WellFormed.{IsWord}
 use Rattle.lb_syntax.specs.declared.tree.Op.TheVariants.{And, Or, Sru, Slu, Ltu, Eq}
+use Rattle.lb_builders.specs.Registers.{writes}
 use Rattle.lb_syntax.specs.declared.tree.Width.TheVariants.{One}
 use Rattle.lb_trace.specs.declared.Event.{Event}
 use Rattle.lb_trace.specs.declared.Event.TheVariants.{Ld, St}
@@ -94,7 +95,7 @@ module _ (call : Caller) (n : ℕ) (base st : ℕ) (ws : List ℕ) (t l : List E
       let s : Is (switch on) (Ld output_val x ∷ St output_val (with_command x on) ∷ []) =
       (x, status_test x h, then_is (OneEvent (Ld output_val x)) (OneEvent (St output_val (with_command x on))) (Ld output_val x ∷ []) (St output_val (with_command x on) ∷ []) refl refl) in
       let b_is : on ≡ command (packet_bytes st ws) = ap (λ (q : ℕ). q % 2 == 1) (sym (byte_is st ws 42 (omega (arith, j)))) in
-      value_then (Ok (bit_or (bit_and x 0xFF7F_FFFF) (slu_of c 23))) (with_command x on) u2 t W PartOfRound (λ q. Goes (set v_ q u2)) (λ y. then_do (run_with call n [] (Rattle.lb_bulb.specs.Supplied.writes output_val (Variable v_)) y) (λ z. Goes z)) (ap (λ (q : ℕ). Ok q) e)
+      value_then (Ok (bit_or (bit_and x 0xFF7F_FFFF) (slu_of c 23))) (with_command x on) u2 t W PartOfRound (λ q. Goes (set v_ q u2)) (λ y. then_do (run_with call n [] (writes output_val (Variable v_)) y) (λ z. Goes z)) (ap (λ (q : ℕ). Ok q) e)
       (goes (l ++ Ld output_val x ∷ St output_val (with_command x on) ∷ []) z hs
       (valid_round st ws _ word fit v (then_is (packet st ws) (switch (command (packet_bytes st ws))) l (Ld output_val x ∷ St output_val (with_command x on) ∷ []) p
       (subst (λ (q : Bool). Is (switch q) (Ld output_val x ∷ St output_val (with_command x on) ∷ [])) b_is s))))))

@@ -14,7 +14,8 @@ use Rattle.lb_source.specs.Run.{State, Outcome, Goes, Caller, run_with, value_in
 use Rattle.lb_grammar.specs.Forms.{Form, One, Sequence, Exactly, at_most, Repeated, none, Is, Begins}
 use Rattle.lb_grammar.specs.Grammar.{txdata, rxdata, busy_load, answer_load}
 use Rattle.lb_bulb.proofs.FormLemmas.{busy_test, answer_test, map_is, fewer_begin, busy_begins, sent_is, sent_begins}
-use Rattle.lb_bulb.specs.Supplied.{b_, e_, n_, r_, poll, goes_on, shifted, count_down, reads, after_sending}
+use Rattle.lb_builders.specs.Registers.{reads}
+use Rattle.lb_bulb.specs.Supplied.{b_, e_, n_, r_, poll, goes_on, shifted, count_down, after_sending}
 use Rattle.lb_bulb.proofs.Does.{AreWords, Does, goes, Gives, Exchange, answered, gave_up, passed, Cut, within}
 use Rattle.lb_bulb.proofs.Statements.{XchgLaw}
 use Rattle.lb_bulb.proofs.Rules.{Whole, longer, part_does, end_does, value_then, zero_does, read_then, loop_does}

@@ -1,21 +1,13 @@
 -- Parts of blocks of the supplied program. Cited by private contracts alone.
-use Rattle.std.specs.Prelude.{◌≡◌, ℕ, List, [], ◌∷◌, ◌++◌, map}
-use Rattle.lb_syntax.specs.Tree.{Term, Number, Variable, Operation, command_of, chain}
+use Rattle.std.specs.Prelude.{ℕ, List, [], ◌∷◌}
+use Rattle.lb_syntax.specs.Tree.{Term, Number, Variable, Operation}
 use Rattle.lb_syntax.specs.Tree.{Command, Sets, Chooses, Repeats, Ends}
-use Rattle.lb_syntax.specs.declared.tree.Cmd.{Cmd}
 use Rattle.lb_syntax.specs.declared.tree.Op.TheVariants.{And, Eq}
 use Rattle.lb_bulb.specs.Supplied.{a_, bad_, e_, i_, len_, n_, s_, v_, x_}
-use Rattle.lb_bulb.specs.Supplied.{writes, shifted, low_byte, is_zero, stands_still, until}
+use Rattle.lb_builders.specs.Registers.{writes}
+use Rattle.lb_bulb.specs.Supplied.{shifted, low_byte, is_zero, stands_still, until}
 use Rattle.lb_bulb.specs.Supplied.{exchange_in, with_byte_at, read_in, receive_test, receive_body}
 use Rattle.lb_bulb.specs.Supplied.{byte_of, bad_where, too_short, too_long, checking}
-
--- a block of two commands
-abbrev pub pair : Command → Command → Command
-pair c d = chain (c ∷ d ∷ [])
-
--- commands were added behind others
-abbrev pub AreAdded : List Cmd → List Cmd → List Command → Type 0
-AreAdded old new added = map command_of new ≡ map command_of old ++ added
 
 -- another byte of a transaction is exchanged
 abbrev pub next_in : List ℕ → Term → Command

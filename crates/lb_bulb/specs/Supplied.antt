@@ -3,10 +3,10 @@ use Rattle.std.specs.Prelude.{ℕ, List, [], ◌∷◌, codes}
 use Rattle.lb_syntax.specs.Names.{Text}
 use Rattle.lb_syntax.specs.Tree.{Term, Number, Variable, Loaded, Operation, Procedure, chain}
 use Rattle.lb_syntax.specs.Tree.{Command, Skips, Sets, Stores, Allocates, Chooses, Repeats}
-use Rattle.lb_syntax.specs.Tree.{Calls, Interacts, Ends, Then}
+use Rattle.lb_syntax.specs.Tree.{Calls, Ends, Then}
 use Rattle.lb_syntax.specs.declared.tree.Op.TheVariants.{Add, Sub, And, Or, Sru, Slu, Ltu, Eq}
 use Rattle.lb_syntax.specs.declared.tree.Width.TheVariants.{One, Four}
-use Rattle.lb_syntax.specs.declared.tree.Action.TheVariants.{Read, Write}
+use Rattle.lb_builders.specs.Registers.{reads, writes}
 
 -- ---- names
 
@@ -62,13 +62,6 @@ abbrev pub lan_write : Text
 lan_write = codes "lan_write"
 
 -- ---- commands
-
--- a device's register is read, or written
-abbrev pub reads : Text → ℕ → Command
-reads x a = Interacts (x ∷ []) Read (Number a ∷ [])
-
-abbrev pub writes : ℕ → Term → Command
-writes a e = Interacts [] Write (Number a ∷ e ∷ [])
 
 abbrev pub shifted : Text → ℕ → Term
 shifted x k = Operation Sru (Variable x) (Number k)

@@ -1,14 +1,16 @@
 // The function `init`: the pins are set, and the network chip is waited for and told to receive.
 ghost use Rattle.std.specs.Prelude.{◌≡◌, IfOk, OnOk};
 ghost use Rattle.lb_syntax.specs.Tree.{Number, Sets, term_of, command_of, block_of, procedure_of};
-ghost use Rattle.lb_bulb.specs.InternalParts.{AreAdded, waiting};
+ghost use Rattle.lb_builders.specs.Added.{AreAdded};
+ghost use Rattle.lb_bulb.specs.InternalParts.{waiting};
 ghost use Rattle.lb_bulb.specs.Supplied.{bad_, is_vain, until, until_turn};
 ghost use Rattle.lb_bulb.specs.Supplied.{init_body, init_procedure};
 
-use crate::make::{add, block, number, operation, repeats, set, shifted, variable, write_register};
+use crate::term::shifted;
 use crate::transaction::{read_in, write_out};
 use crate::waits::{all_turns, count_down, goes_on, stands_still};
-use crate::words::{Word, name};
+use crate::words::Word;
+use lb_builders::{Spelled, add, block, number, operation, repeats, set, variable, write_register};
 use lb_syntax::{Block, Cmd, Expr, Function, Op};
 use sqlite_items::Items;
 use std::alloc::{AllocError, Global};
@@ -93,7 +95,7 @@ fn init_body(alloc: Global) -> Result<Block, AllocError>
 pub fn init_function(alloc: Global) -> Result<Function, AllocError>
     ensures { IfOk result (λ f. procedure_of f ≡ init_procedure) }
 {
-    let name = name(alloc, Word::Init)?;
+    let name = Word::Init.name(alloc)?;
     let body = init_body(alloc)?;
     Ok(Function {
         name,

@@ -2,15 +2,17 @@
 ghost use Rattle.std.specs.Prelude.{◌≡◌, IfOk};
 ghost use Rattle.lb_syntax.specs.Tree.{Number, Variable, Sets, Chooses, Ends};
 ghost use Rattle.lb_syntax.specs.Tree.{command_of, block_of, procedure_of};
-ghost use Rattle.lb_bulb.specs.Supplied.{b_, e_, r_, is_zero, shifted, low_byte, writes};
+ghost use Rattle.lb_builders.specs.Registers.{writes};
+ghost use Rattle.lb_bulb.specs.Supplied.{b_, e_, r_, is_zero, shifted, low_byte};
 ghost use Rattle.lb_bulb.specs.Supplied.{poll_turn, poll, after_sending, exchanging, xchg_body, xchg_procedure};
 
-use crate::make::{
-    add, block, is_zero, low_byte, number, read_register, repeats, set, shifted, two, two_names,
-    variable, when, write_register,
-};
+use crate::term::{is_zero, low_byte, shifted};
 use crate::waits::{all_turns, count_down, goes_on};
-use crate::words::{Word, name};
+use crate::words::Word;
+use lb_builders::{
+    Spelled, add, block, number, read_register, repeats, set, two, two_names, variable, when,
+    write_register,
+};
 use lb_syntax::{Block, Cmd, Function};
 use sqlite_items::Items;
 use std::alloc::{AllocError, Global};
@@ -111,7 +113,7 @@ fn xchg_body(alloc: Global) -> Result<Block, AllocError>
 pub fn exchange_function(alloc: Global) -> Result<Function, AllocError>
     ensures { IfOk result (λ f. procedure_of f ≡ xchg_procedure) }
 {
-    let name = name(alloc, Word::SpiXchg)?;
+    let name = Word::SpiXchg.name(alloc)?;
     let params = two_names(alloc, Word::B, Word::E)?;
     let results = two_names(alloc, Word::R, Word::E)?;
     let body = xchg_body(alloc)?;

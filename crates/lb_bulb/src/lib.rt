@@ -4,9 +4,9 @@
 mod boot;
 mod exchange;
 mod laws;
-mod make;
 mod packet;
 mod round;
+mod term;
 mod text;
 mod transaction;
 mod tree;

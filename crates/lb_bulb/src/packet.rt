@@ -1,12 +1,14 @@
 // The first half of a round: whether a packet waits, and its words, which go into a buffer.
 ghost use Rattle.std.specs.Prelude.{◌≡◌, IfOk, OnOk};
 ghost use Rattle.lb_syntax.specs.Tree.{Sets, Repeats, term_of, command_of, block_of};
-ghost use Rattle.lb_bulb.specs.InternalParts.{AreAdded, status_bits, receiving_commands};
+ghost use Rattle.lb_builders.specs.Added.{AreAdded};
+ghost use Rattle.lb_bulb.specs.InternalParts.{status_bits, receiving_commands};
 ghost use Rattle.lb_bulb.specs.Supplied.{len_, store_word, keep, next_word, receive_test, receive_body};
 
-use crate::make::{add, block, number, one, operation, repeats, set, shifted, variable, when};
+use crate::term::shifted;
 use crate::transaction::read_in;
 use crate::words::Word;
+use lb_builders::{add, block, number, one, operation, repeats, set, variable, when};
 use lb_syntax::{Block, Cmd, Expr, Op, Width};
 use sqlite_items::Items;
 use std::alloc::{AllocError, Global};

@@ -3,19 +3,21 @@ ghost use Rattle.std.specs.Prelude.{◌≡◌, IfOk, OnOk};
 ghost use Rattle.lb_syntax.specs.Tree.{Number, Variable, Operation, Sets, Chooses, Ends};
 ghost use Rattle.lb_syntax.specs.Tree.{term_of, command_of, block_of, procedure_of};
 ghost use Rattle.lb_syntax.specs.declared.tree.Op.TheVariants.{And};
-ghost use Rattle.lb_bulb.specs.InternalParts.{AreAdded, byte_is, judging_commands};
+ghost use Rattle.lb_builders.specs.Added.{AreAdded};
+ghost use Rattle.lb_bulb.specs.InternalParts.{byte_is, judging_commands};
 ghost use Rattle.lb_bulb.specs.Supplied.{bad_, c_, ok_, is_zero, byte_of, and_byte, switched, switching};
 ghost use Rattle.lb_bulb.specs.Supplied.{checking, bad_where, too_short, too_long, packet_waits};
 ghost use Rattle.lb_bulb.specs.Supplied.{filled_body, round_body, loop_body, loop_procedure};
 
 use crate::boot::now_bad;
-use crate::make::{
-    add, block, is_zero, low_byte, number, one, operation, read_register, set, shifted, two,
-    variable, when, write_register,
-};
 use crate::packet::{receive, status_bits};
+use crate::term::{is_zero, low_byte, shifted};
 use crate::transaction::read_in;
-use crate::words::{Word, name};
+use crate::words::Word;
+use lb_builders::{
+    Spelled, add, block, number, one, operation, read_register, set, two, variable, when,
+    write_register,
+};
 use lb_syntax::{Block, Cmd, Expr, Function, Op, Width};
 use sqlite_items::{Boxed, Items};
 use std::alloc::{AllocError, Global};
@@ -185,7 +187,7 @@ fn round_body(alloc: Global) -> Result<Block, AllocError>
 fn loop_body(alloc: Global) -> Result<Block, AllocError>
     ensures { IfOk result (λ b. block_of b ≡ loop_body) }
 {
-    let target = name(alloc, Word::Buf)?;
+    let target = Word::Buf.name(alloc)?;
     let body = round_body(alloc)?;
     one(
         alloc,
@@ -201,7 +203,7 @@ fn loop_body(alloc: Global) -> Result<Block, AllocError>
 pub fn loop_function(alloc: Global) -> Result<Function, AllocError>
     ensures { IfOk result (λ f. procedure_of f ≡ loop_procedure) }
 {
-    let name = name(alloc, Word::Loop)?;
+    let name = Word::Loop.name(alloc)?;
     let body = loop_body(alloc)?;
     Ok(Function {
         name,

@@ -2,18 +2,21 @@
 ghost use Rattle.std.specs.Prelude.{◌≡◌, IfOk, OnOk};
 ghost use Rattle.lb_syntax.specs.Tree.{Number, Variable, term_of};
 ghost use Rattle.lb_syntax.specs.Tree.{command_of, block_of, procedure_of};
+ghost use Rattle.lb_builders.specs.Added.{AreAdded};
+ghost use Rattle.lb_builders.specs.Registers.{writes};
 ghost use Rattle.lb_bulb.specs.InternalWords.{text_of};
-ghost use Rattle.lb_bulb.specs.InternalParts.{AreAdded, next_in, opening, closing, value_read, value_sent};
-ghost use Rattle.lb_bulb.specs.Supplied.{a_, v_, x_, writes, shifted, low_byte};
+ghost use Rattle.lb_bulb.specs.InternalParts.{next_in, opening, closing, value_read, value_sent};
+ghost use Rattle.lb_bulb.specs.Supplied.{a_, v_, x_, shifted, low_byte};
 ghost use Rattle.lb_bulb.specs.Supplied.{exchange_in, with_byte_at, read_in, write_out};
 ghost use Rattle.lb_bulb.specs.Supplied.{read_body, write_body, read_procedure, write_procedure};
 
-use crate::make::{
-    add, block, low_byte, number, one_name, operation, set, shifted, two_names, variable,
+use crate::term::{low_byte, shifted};
+use crate::waits::stands_still;
+use crate::words::Word;
+use lb_builders::{
+    Spelled, add, block, number, one_name, operation, set, two_names, two_terms, variable,
     write_register,
 };
-use crate::waits::stands_still;
-use crate::words::{Word, name};
 use lb_syntax::{Block, Cmd, Expr, Function, Op};
 use sqlite_items::Items;
 use std::alloc::{AllocError, Global};
@@ -24,7 +27,7 @@ pub fn read_in(alloc: Global, x: Word, address: u32) -> Result<Cmd, AllocError>
 {
     Ok(Cmd::Call {
         targets: one_name(alloc, x)?,
-        function: name(alloc, Word::LanRead)?,
+        function: Word::LanRead.name(alloc)?,
         arguments: Items::from_vec(vec![in alloc; number(address)]?),
     })
 }
@@ -35,8 +38,8 @@ pub fn write_out(alloc: Global, address: u32, value: u32) -> Result<Cmd, AllocEr
 {
     Ok(Cmd::Call {
         targets: Items::new(alloc),
-        function: name(alloc, Word::LanWrite)?,
-        arguments: Items::from_vec(vec![in alloc; number(address), number(value)]?),
+        function: Word::LanWrite.name(alloc)?,
+        arguments: two_terms(alloc, number(address), number(value))?,
     })
 }
 
@@ -46,8 +49,8 @@ fn exchange(alloc: Global, x: Word, b: Expr, e: Expr) -> Result<Cmd, AllocError>
 {
     Ok(Cmd::Call {
         targets: two_names(alloc, x, Word::E)?,
-        function: name(alloc, Word::SpiXchg)?,
-        arguments: Items::from_vec(vec![in alloc; b, e]?),
+        function: Word::SpiXchg.name(alloc)?,
+        arguments: two_terms(alloc, b, e)?,
     })
 }
 
@@ -192,7 +195,7 @@ fn write_body(alloc: Global) -> Result<Block, AllocError>
 pub fn read_function(alloc: Global) -> Result<Function, AllocError>
     ensures { IfOk result (λ f. procedure_of f ≡ read_procedure) }
 {
-    let name = name(alloc, Word::LanRead)?;
+    let name = Word::LanRead.name(alloc)?;
     let params = one_name(alloc, Word::A)?;
     let results = one_name(alloc, Word::V)?;
     let body = read_body(alloc)?;
@@ -208,7 +211,7 @@ pub fn read_function(alloc: Global) -> Result<Function, AllocError>
 pub fn write_function(alloc: Global) -> Result<Function, AllocError>
     ensures { IfOk result (λ f. procedure_of f ≡ write_procedure) }
 {
-    let name = name(alloc, Word::LanWrite)?;
+    let name = Word::LanWrite.name(alloc)?;
     let params = two_names(alloc, Word::A, Word::V)?;
     let body = write_body(alloc)?;
     Ok(Function {

@@ -5,8 +5,8 @@ ghost use Rattle.lb_syntax.specs.declared.tree.Op.TheVariants.{Ltu};
 ghost use Rattle.lb_bulb.specs.InternalWords.{text_of};
 ghost use Rattle.lb_bulb.specs.Supplied.{n_, goes_on, count_down, stands_still};
 
-use crate::make::{number, one, operation, repeats, set, variable};
 use crate::words::Word;
+use lb_builders::{number, one, operation, repeats, set, variable};
 use lb_syntax::{Cmd, Expr, Op};
 use std::alloc::{AllocError, Global};
 

@@ -1,9 +1,10 @@
 // The names in the supplied program.
-ghost use Rattle.std.specs.Prelude.{◌≡◌, IfOk};
+ghost use Rattle.std.specs.Prelude.{◌≡◌};
 ghost use Rattle.lb_syntax.specs.Names.{IsName};
 ghost use Rattle.lb_bulb.specs.InternalWords.{text_of};
 
-use lb_syntax::{Name, NameFault};
+use lb_builders::{Spelled, name_of};
+use lb_syntax::Name;
 use std::alloc::{AllocError, Global};
 
 /// A name in the supplied program, spelled as its bytes below say.
@@ -66,13 +67,12 @@ fn name_bytes(word: Word) -> &'static [u8]
     bytes_of(word)
 }
 
-/// The name.
-pub fn name(alloc: Global, word: Word) -> Result<Name, AllocError>
-    ensures { IfOk result (λ n. n ≡ text_of word) }
-{
-    match Name::new(alloc, name_bytes(word)) {
-        Ok(name) => Ok(name),
-        Err(NameFault::Memory) => Err(AllocError),
-        Err(NameFault::NotAName) => unreachable!(),
+impl Spelled for Word {
+    ghost use Rattle.lb_bulb.specs.InternalWords.{text_of};
+
+    ghost text = { text_of };
+
+    fn name(self, alloc: Global) -> Result<Name, AllocError> {
+        name_of(alloc, name_bytes(self))
     }
 }

@@ -1,8 +1,6 @@
 -- Parts of programs. Cited by private contracts alone.
-use Rattle.std.specs.Prelude.{◌≡◌, ◌++◌, List, map, codes}
+use Rattle.std.specs.Prelude.{codes}
 use Rattle.lb_syntax.specs.Names.{Text}
-use Rattle.lb_syntax.specs.Tree.{Command, command_of}
-use Rattle.lb_syntax.specs.declared.tree.Cmd.{Cmd}
 use Rattle.lb_gen.specs.Made.{a_, b_, i_, r_}
 use Rattle.lb_gen.specs.declared.words.Word.{Word}
 use Rattle.lb_gen.specs.declared.words.Word.TheVariants.{A, B, I, R, Init, Loop}
@@ -15,7 +13,3 @@ text_of I = i_
 text_of R = r_
 text_of Init = codes "init"
 text_of Loop = codes "loop"
-
--- commands were added behind others
-abbrev pub AreAdded : List Cmd → List Cmd → List Command → Type 0
-AreAdded old new added = map command_of new ≡ map command_of old ++ added

@@ -5,11 +5,11 @@ use Rattle.std.specs.Prelude.{codes, decimal, slice_index_or}
 use Rattle.std.specs.List.{range_with_len}
 use Rattle.lb_syntax.specs.Names.{Text}
 use Rattle.lb_syntax.specs.Tree.{Term, Number, Variable, Operation, Procedure, chain}
-use Rattle.lb_syntax.specs.Tree.{Command, Skips, Sets, Repeats, Calls, Interacts}
+use Rattle.lb_syntax.specs.Tree.{Command, Skips, Sets, Repeats, Calls}
 use Rattle.lb_syntax.specs.declared.tree.Op.{Op}
 use Rattle.lb_syntax.specs.declared.tree.Op.TheVariants.{Add, Sub, Mul, Mulhuu, Divu, Remu}
 use Rattle.lb_syntax.specs.declared.tree.Op.TheVariants.{And, Or, Xor, Sru, Slu, Srs, Lts, Ltu, Eq}
-use Rattle.lb_syntax.specs.declared.tree.Action.TheVariants.{Write}
+use Rattle.lb_builders.specs.Registers.{writes}
 use Rattle.lb_gen.specs.declared.drawn.DrawnFunction.{DrawnFunction}
 
 -- ---- what is drawn
@@ -98,7 +98,7 @@ calls_before (suc i) drawn = call_of i (Variable r_) drawn.third_number ∷ []
 
 -- `MMIOWRITE(0x1001200C, r);`
 abbrev pub shows : Command
-shows = Interacts [] Write (Number 0x1001_200C ∷ Variable r_ ∷ [])
+shows = writes 0x1001_200C (Variable r_)
 
 abbrev pub function_body : ℕ → DrawnFunction → List Command
 function_body j drawn =

@@ -1,14 +1,17 @@
 // The function of a number.
 ghost use Rattle.std.specs.Prelude.{◌≡◌, ◌<◌, IfOk, OnOk, [], ◌∷◌, map};
-ghost use Rattle.lb_syntax.specs.Tree.{Repeats, term_of, command_of, block_of, chain, procedure_of};
+ghost use Rattle.lb_syntax.specs.Tree.{term_of, command_of, block_of, chain, procedure_of};
+ghost use Rattle.lb_builders.specs.Added.{AreAdded};
 ghost use Rattle.lb_gen.specs.Made.{first_value, no_turns, next_value, count_turn, turns};
 ghost use Rattle.lb_gen.specs.Made.{call_of, calls_before, shows, function_body, made_function};
-ghost use Rattle.lb_gen.specs.InternalParts.{AreAdded};
 
 use crate::drawn::DrawnFunction;
-use crate::make::{add, block, number, one_name, operation, set, two_names, two_terms, variable};
-use crate::words::{Word, function_name, name};
-use lb_syntax::{Action, Block, Cmd, Expr, Function, Op};
+use crate::words::{Word, function_name};
+use lb_builders::{
+    add, block, number, one_name, operation, repeats, set, two_names, two_terms, variable,
+    write_register,
+};
+use lb_syntax::{Block, Cmd, Expr, Function, Op};
 use sqlite_items::Items;
 use std::alloc::{AllocError, Global};
 
@@ -64,10 +67,7 @@ fn turns(alloc: Global, drawn: &DrawnFunction) -> Result<Cmd, AllocError>
     let mut commands = Items::new(alloc);
     add(&mut commands, next_value(alloc, drawn)?)?;
     add(&mut commands, count_turn(alloc)?)?;
-    Ok(Cmd::While {
-        condition,
-        body: block(commands),
-    })
+    Ok(repeats(condition, block(commands)))
 }
 
 // `r = fI(r, K3);` of the function before, where there is one.
@@ -104,11 +104,7 @@ fn shows(alloc: Global) -> Result<Cmd, AllocError>
     ensures { IfOk result (λ c. command_of c ≡ shows) }
 {
     let r = variable(alloc, Word::R)?;
-    Ok(Cmd::Interact {
-        targets: Items::new(alloc),
-        action: Action::Write,
-        arguments: two_terms(alloc, number(OUTPUT_VALUE), r)?,
-    })
+    write_register(alloc, OUTPUT_VALUE, r)
 }
 
 // The body of the function of this number.

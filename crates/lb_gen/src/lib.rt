@@ -4,7 +4,6 @@
 mod drawn;
 mod function;
 mod laws;
-mod make;
 mod program;
 mod words;
 

@@ -7,8 +7,8 @@ ghost use Rattle.lb_gen.specs.InternalDraws.{AreDrawn};
 
 use crate::drawn::draw_function;
 use crate::function::{call, numbered_function};
-use crate::make::{number, one};
-use crate::words::{Word, name};
+use crate::words::Word;
+use lb_builders::{Spelled, number, one};
 use lb_check::{CheckError, Checked, check};
 use lb_draws::Draws;
 use lb_syntax::{Cmd, Function, Program};
@@ -34,7 +34,7 @@ fn numbered_functions(alloc: Global, draws: &mut Draws) -> Result<Items<Function
 fn init_function(alloc: Global, first: u32, second: u32) -> Result<Function, AllocError>
     ensures { IfOk result (λ f. procedure_of f ≡ init_function first second) }
 {
-    let name = name(alloc, Word::Init)?;
+    let name = Word::Init.name(alloc)?;
     let body = one(alloc, call(alloc, NUMBERED - 1, number(first), second)?)?;
     Ok(Function {
         name,
@@ -48,7 +48,7 @@ fn init_function(alloc: Global, first: u32, second: u32) -> Result<Function, All
 fn loop_function(alloc: Global) -> Result<Function, AllocError>
     ensures { IfOk result (λ f. procedure_of f ≡ loop_function) }
 {
-    let name = name(alloc, Word::Loop)?;
+    let name = Word::Loop.name(alloc)?;
     let body = one(alloc, Cmd::Skip)?;
     Ok(Function {
         name,

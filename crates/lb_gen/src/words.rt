@@ -4,7 +4,8 @@ ghost use Rattle.lb_syntax.specs.Names.{IsName};
 ghost use Rattle.lb_gen.specs.Made.{function_name};
 ghost use Rattle.lb_gen.specs.InternalParts.{text_of};
 
-use lb_syntax::{Name, NameFault};
+use lb_builders::{Spelled, name_of};
+use lb_syntax::Name;
 use std::alloc::{AllocError, Global};
 
 /// A name that is no numbered function's, spelled as its bytes below say.
@@ -32,24 +33,23 @@ fn bytes_of(word: Word) -> &'static [u8]
     }
 }
 
-// The name that these bytes are.
-fn name_of(alloc: Global, bytes: &[u8]) -> Result<Name, AllocError>
-    requires { IsName bytes.now }
-    ensures { IfOk result (λ n. n ≡ bytes.now) }
+// Its bytes, which are a name.
+#[tactic(auto, using(crate::proofs::NameLemmas::word_is_name))]
+fn name_bytes(word: Word) -> &'static [u8]
+    ensures text { result.now ≡ text_of word }
+    ensures is_name { IsName result.now }
 {
-    match Name::new(alloc, bytes) {
-        Ok(name) => Ok(name),
-        Err(NameFault::Memory) => Err(AllocError),
-        Err(NameFault::NotAName) => unreachable!(),
-    }
+    bytes_of(word)
 }
 
-/// The name.
-#[tactic(auto, using(crate::proofs::NameLemmas::word_is_name))]
-pub fn name(alloc: Global, word: Word) -> Result<Name, AllocError>
-    ensures { IfOk result (λ n. n ≡ text_of word) }
-{
-    name_of(alloc, bytes_of(word))
+impl Spelled for Word {
+    ghost use Rattle.lb_gen.specs.InternalParts.{text_of};
+
+    ghost text = { text_of };
+
+    fn name(self, alloc: Global) -> Result<Name, AllocError> {
+        name_of(alloc, name_bytes(self))
+    }
 }
 
 /// The name of the function of a number.

@@ -1,12 +1,12 @@
 // Machines of jobs that are written as text: words and frames in hexadecimal.
-ghost use Rattle.std.specs.Prelude.{◌≤◌, IfOk, OnOk, length};
+ghost use Rattle.std.specs.Prelude.{◌≤◌, IfOk, length};
 ghost use Rattle.lb_isa.specs.Runs.{IsBootable};
-ghost use Rattle.lb_board.specs.Script.{IsScript};
 ghost use Rattle.lb_machine.specs.Logs.{HaveWorkers, most_entries};
 
 use crate::stop::Stop;
+use lb_board_testkit::script;
 use lb_machine::{Machine, replay};
-use lb_trace::{Entry, Frame};
+use lb_trace::Entry;
 use std::alloc::Global;
 
 /// A job as text.
@@ -49,28 +49,4 @@ fn code(alloc: Global, words: &str) -> Result<Vec<u32>, Stop>
         return Err(Stop::Text);
     }
     Ok(code)
-}
-
-// The frames that are to arrive.
-fn script(alloc: Global, texts: &str) -> Result<Vec<Frame>, Stop>
-    ensures { IfOk result (λ frames. IsScript frames.items) }
-{
-    let mut frames = Vec::new(alloc);
-    for text in texts.split_whitespace() {
-        add_frame(&mut frames, hex::decode(alloc, text)?)?;
-    }
-    Ok(frames)
-}
-
-// Adds a frame to the script, where it still is one.
-fn add_frame(frames: &mut Vec<Frame>, bytes: Vec<u8>) -> Result<(), Stop>
-    requires { IsScript frames.old.items }
-    ensures { OnOk result (IsScript frames.new.items) }
-{
-    let length = bytes.len();
-    if frames.len() >= 64 || length == 0 || length > 2000 {
-        return Err(Stop::Text);
-    }
-    frames.push(Frame::new(bytes, length == 5))?;
-    Ok(())
 }

@@ -1,7 +1,6 @@
 // Why a test's text leads to no machine.
-use hex::FromHexError;
+use lb_board_testkit::ScriptFault;
 use lb_machine::ReplayFault;
-use lb_trace::Frame;
 use std::alloc::{AllocError, AllocFailed};
 
 /// Why a text leads to no machine.
@@ -27,15 +26,12 @@ impl From<AllocFailed<u32>> for Stop {
     }
 }
 
-impl From<AllocFailed<Frame>> for Stop {
-    fn from(_: AllocFailed<Frame>) -> Self {
-        Stop::Memory
-    }
-}
-
-impl From<FromHexError> for Stop {
-    fn from(_: FromHexError) -> Self {
-        Stop::Text
+impl From<ScriptFault> for Stop {
+    fn from(fault: ScriptFault) -> Self {
+        match fault {
+            ScriptFault::Text => Stop::Text,
+            ScriptFault::Memory => Stop::Memory,
+        }
     }
 }
 
