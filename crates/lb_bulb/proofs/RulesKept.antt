@@ -11,11 +11,8 @@ use Rattle.lb_syntax.specs.Tree.{Term, Procedure}
 use Rattle.lb_syntax.specs.Needs.{sites, frame_need, procedure_words, code_need, IsWithinLimits}
 use Rattle.lb_syntax.specs.Calls.{CallSite, call_sites, access_sites, callees, IsCallPath, IsRecursive, path_need}
 use Rattle.lb_syntax.specs.Rules.{function_names, IsEntry, HasEntryShape, IsBlockSize, Fits, IsGoodCall, IsGoodAccess, KeepsFunctionRules, KeepsRules}
+use Rattle.lb_syntax.proofs.ProgramLemmas.{Within, here, later, is_within, other_name, no_entry, sum_more}
 use Rattle.lb_bulb.specs.Supplied.{supplied, spi_xchg, lan_read, lan_write, xchg_procedure, read_procedure, write_procedure, init_procedure, loop_procedure}
-
--- names that differ
-other_name : (x y : Text) → bytes_eq x y ≡ false → x ≡ y → ⊥
-other_name x y h e = let z : bytes_eq x y ≡ true = (bytes_eq-Decides x y).1 e in let f : true ≡ false = sym z ∙ h in cc
 
 -- ---- how deep a function's calls nest
 
@@ -34,19 +31,6 @@ rank_small x = by (bytes_eq x spi_xchg) (is_among (lan_read ∷ lan_write ∷ []
     by true b = omega arith
     by false true = omega arith
     by false false = omega arith
-
--- an element of a list
-data Within {X : Type 0} (x : X) : List X → Type 0 where
-  here : {xs : List X} → {y : X} → y ≡ x → Within x (y ∷ xs)
-  later : {xs : List X} → {y : X} → Within x xs → Within x (y ∷ xs)
-
-within : {X : Type 0} → (xs : List X) (x : X) (k : ℕ) → k < length xs → slice_index_or xs k x ≡ x → Within x xs
-within [] x k h e = absurd (omega arith)
-within (y ∷ xs) x zero h e = here e
-within (y ∷ xs) x (suc k) h e = let z : k < length xs = omega (arith, h) in later (within xs x k z e)
-
-is_within : {X : Type 0} → (xs : List X) (x : X) → Contains xs x → Within x xs
-is_within xs x c = within xs x c.0 c.1 c.2
 
 -- every name in the list is of a lower rank
 abbrev Lower : ℕ → List Text → Type 0
@@ -107,13 +91,6 @@ never_back : (f : Procedure) → ¬ (IsRecursive supplied f)
 never_back f r = let z : rank f.name < rank f.name = path_down f f r.0 r.1 in omega (arith, z)
 
 -- a path takes no more than its rank allows
-first_in : (f : Procedure) (path : List Procedure) → IsCallPath supplied (f ∷ path) → Contains supplied f
-first_in f [] h = h
-first_in f (g ∷ path) h = h.0
-
-sum_more : (f : Procedure) (path : List Procedure) → path_need (f ∷ path) ≡ frame_need f + path_need path
-sum_more f path = sum_by-cons (λ n. n) (frame_need f) (map frame_need path)
-
 path_small : (f : Procedure) (path : List Procedure) → IsCallPath supplied (f ∷ path) → path_need (f ∷ path) ≤ 2032 * (rank f.name + 1)
 path_small f [] h =
     let s : frame_need f ≤ 2032 = (ranked f h).small in
@@ -139,13 +116,6 @@ distinct_five = (refl, (refl, (refl, (refl, (refl, tt)))))
 -- a name of the program
 named : (k : ℕ) (x : Text) → k < 5 → slice_index_or (function_names supplied) k x ≡ x → Contains (function_names supplied) x
 named k x h e = (k, h, e)
-
-no_entry : (f : Procedure) → bytes_eq f.name (codes "init") ≡ false → bytes_eq f.name (codes "loop") ≡ false → HasEntryShape f
-no_entry f h i = λ e. absurd (neither e)
-  where
-    neither : IsEntry f → ⊥
-    neither (inl e) = other_name f.name (codes "init") h e
-    neither (inr e) = other_name f.name (codes "loop") i e
 
 -- a call fits the function of its name, and no other function has it
 abbrev FitsWhere : CallSite → Procedure → Type 0
@@ -267,7 +237,7 @@ rules_law = record {
   stack = stack_small;
 }
 
--- ---- the needs, as the papers count them
+-- ---- the needs, in numbers
 
 words_are : map procedure_words supplied ≡ 520 ∷ 592 ∷ 514 ∷ 556 ∷ 868 ∷ []
 words_are = refl

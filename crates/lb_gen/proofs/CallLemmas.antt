@@ -7,7 +7,8 @@ use Rattle.lb_syntax.specs.Needs.{frame_need}
 use Rattle.lb_syntax.specs.Calls.{callees, IsCallPath, IsRecursive, path_need, IsStackNeed}
 use Rattle.lb_gen.specs.Made.{function_name, numbered_function, init_function, loop_function}
 use Rattle.lb_gen.proofs.NameLemmas.{same_name}
-use Rattle.lb_gen.proofs.Members.{whole, other_name, Within, is_within, only, Member, numbered, starts, goes_on, member, has_numbered, has_init, by_name}
+use Rattle.lb_syntax.proofs.ProgramLemmas.{Within, is_within, only, other_name, first_in, sum_more}
+use Rattle.lb_gen.proofs.Members.{whole, Member, numbered, starts, goes_on, member, has_numbered, has_init, by_name}
 
 -- ---- one call
 
@@ -38,10 +39,6 @@ loop_calls : (x : Text) → Contains (callees loop_function) x → ⊥
 loop_calls x d = let w : Within x [] = is_within _ x d in elim w [ ]
 
 -- ---- paths of calls
-
-first_in : (p : List Procedure) (f : Procedure) (path : List Procedure) → IsCallPath p (f ∷ path) → Contains p f
-first_in p f [] h = h
-first_in p f (g ∷ path) h = h.0
 
 -- where a path from a function leads
 ends_before : (draws : ℕ → ℕ) (j : ℕ) (path : List Procedure) (g : Procedure) → j < 64 → IsCallPath (whole draws) (numbered_function draws j ∷ path ++ g ∷ []) → (k : ℕ) × (k < j) × (numbered_function draws k ≡ g)
@@ -91,9 +88,6 @@ loop_never_back draws r = by r.0 r.1
 pub frame_is : (draws : ℕ → ℕ) (j : ℕ) → frame_need (numbered_function draws j) ≡ 164
 frame_is draws zero = refl
 frame_is draws (suc i) = refl
-
-sum_more : (f : Procedure) (path : List Procedure) → path_need (f ∷ path) ≡ frame_need f + path_need path
-sum_more f path = sum_by-cons (λ n. n) (frame_need f) (map frame_need path)
 
 nothing_taken : path_need [] ≡ 0
 nothing_taken = refl

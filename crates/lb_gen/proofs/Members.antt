@@ -6,42 +6,9 @@ use Rattle.std.proofs.lemmas.Slice.Eq.{bytes_eq-Decides}
 use Rattle.std.proofs.lemmas.List.Elements.{Contains-append_cases, Contains-append_left, Contains-append_right}
 use Rattle.lb_syntax.specs.Names.{Text}
 use Rattle.lb_syntax.specs.Tree.{Procedure}
+use Rattle.lb_syntax.proofs.ProgramLemmas.{Within, here, later, is_within, contained, only, other_name}
 use Rattle.lb_gen.specs.Made.{function_name, numbered_function, numbered_functions, init_function, loop_function, entry_functions}
 use Rattle.lb_gen.proofs.NameLemmas.{same_name}
-
--- names that differ
-pub other_name : (x y : Text) → bytes_eq x y ≡ false → x ≡ y → ⊥
-other_name x y h e = let z : bytes_eq x y ≡ true = (bytes_eq-Decides x y).1 e in let f : true ≡ false = sym z ∙ h in cc
-
--- an element of a list
-pub data Within {X : Type 0} (x : X) : List X → Type 0 where
-  here : {xs : List X} → {y : X} → y ≡ x → Within x (y ∷ xs)
-  later : {xs : List X} → {y : X} → Within x xs → Within x (y ∷ xs)
-
-within : {X : Type 0} → (xs : List X) (x : X) (k : ℕ) → k < length xs → slice_index_or xs k x ≡ x → Within x xs
-within [] x k h e = absurd (omega arith)
-within (y ∷ xs) x zero h e = here e
-within (y ∷ xs) x (suc k) h e = let z : k < length xs = omega (arith, h) in later (within xs x k z e)
-
-pub is_within : {X : Type 0} → (xs : List X) (x : X) → Contains xs x → Within x xs
-is_within xs x c = within xs x c.0 c.1 c.2
-
-pub contained : {X : Type 0} → (xs : List X) (x : X) → Within x xs → Contains xs x
-contained [] x w = elim w [ ]
-contained (y ∷ xs) x (here e) = (zero, omega arith, e)
-contained (y ∷ xs) x (later w) =
-    let c : Contains xs x = contained xs x w in
-    let z : suc c.0 < length (y ∷ xs) = omega (arith, c.1) in
-    (suc c.0, z, c.2)
-
-pub mapped : {X Y : Type 0} → (f : X → Y) (xs : List X) (x : X) → Within x xs → Within (f x) (map f xs)
-mapped f [] x w = elim w [ ]
-mapped f (y ∷ xs) x (here e) = here (ap f e)
-mapped f (y ∷ xs) x (later w) = later (mapped f xs x w)
-
-pub only : {X : Type 0} → (y x : X) → Within x (y ∷ []) → y ≡ x
-only y x (here e) = e
-only y x (later w) = elim w [ ]
 
 -- an element of a list by numbers
 numbered_in : {X : Type 0} → (f : ℕ → X) (a n : ℕ) (x : X) → Within x (map f (range_with_len a n)) → (j : ℕ) × (j < a + n) × (f j ≡ x)

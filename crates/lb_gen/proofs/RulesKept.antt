@@ -12,7 +12,8 @@ use Rattle.lb_syntax.specs.Rules.{function_names, IsEntry, HasEntryShape, IsBloc
 use Rattle.lb_gen.specs.Made.{r_, function_name, numbered_function, init_function, loop_function, made}
 use Rattle.lb_gen.specs.Laws.{IsLarge}
 use Rattle.lb_gen.proofs.NameLemmas.{both}
-use Rattle.lb_gen.proofs.Members.{whole, other_name, Member, numbered, starts, goes_on, member, has_numbered, has_init, has_loop, by_name, contained, is_within, mapped}
+use Rattle.lb_syntax.proofs.ProgramLemmas.{contained, is_within, mapped, other_name, no_entry}
+use Rattle.lb_gen.proofs.Members.{whole, Member, numbered, starts, goes_on, member, has_numbered, has_init, has_loop, by_name}
 use Rattle.lb_gen.proofs.CallLemmas.{never_back, init_never_back, loop_never_back, frame_is, path_most, stack_is}
 
 -- what holds of each function of the program
@@ -46,13 +47,6 @@ names_distinct draws = refl
 
 named : (draws : ℕ → ℕ) (f : Procedure) → Contains (whole draws) f → Contains (function_names (whole draws)) f.name
 named draws f c = contained (function_names (whole draws)) f.name (mapped (λ (g : Procedure). g.name) (whole draws) f (is_within (whole draws) f c))
-
-no_entry : (f : Procedure) → bytes_eq f.name (codes "init") ≡ false → bytes_eq f.name (codes "loop") ≡ false → HasEntryShape f
-no_entry f h i = λ e. absurd (neither e)
-  where
-    neither : IsEntry f → ⊥
-    neither (inl e) = other_name f.name (codes "init") h e
-    neither (inr e) = other_name f.name (codes "loop") i e
 
 -- ---- calls
 
