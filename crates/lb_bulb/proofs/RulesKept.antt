@@ -11,7 +11,7 @@ use Rattle.lb_syntax.specs.Tree.{Term, Procedure}
 use Rattle.lb_syntax.specs.Needs.{sites, frame_need, procedure_words, code_need, IsWithinLimits}
 use Rattle.lb_syntax.specs.Calls.{CallSite, call_sites, access_sites, callees, IsCallPath, IsRecursive, path_need}
 use Rattle.lb_syntax.specs.Rules.{function_names, IsEntry, HasEntryShape, IsBlockSize, Fits, IsGoodCall, IsGoodAccess, KeepsFunctionRules, KeepsRules}
-use Rattle.lb_syntax.proofs.ProgramLemmas.{Within, here, later, is_within, other_name, no_entry, sum_more}
+use Rattle.lb_builders.proofs.ProgramLemmas.{Within, here, later, is_within, other_name, no_entry, sum_more}
 use Rattle.lb_bulb.specs.Supplied.{supplied, spi_xchg, lan_read, lan_write, xchg_procedure, read_procedure, write_procedure, init_procedure, loop_procedure}
 
 -- ---- how deep a function's calls nest

@@ -7,7 +7,7 @@ use Rattle.lb_syntax.specs.Needs.{frame_need}
 use Rattle.lb_syntax.specs.Calls.{callees, IsCallPath, IsRecursive, path_need, IsStackNeed}
 use Rattle.lb_gen.specs.Made.{function_name, numbered_function, init_function, loop_function}
 use Rattle.lb_gen.proofs.NameLemmas.{same_name}
-use Rattle.lb_syntax.proofs.ProgramLemmas.{Within, is_within, only, other_name, first_in, sum_more}
+use Rattle.lb_builders.proofs.ProgramLemmas.{Within, is_within, only, other_name, first_in, sum_more}
 use Rattle.lb_gen.proofs.Members.{whole, Member, numbered, starts, goes_on, member, has_numbered, has_init, by_name}
 
 -- ---- one call

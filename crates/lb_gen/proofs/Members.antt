@@ -6,7 +6,7 @@ use Rattle.std.proofs.lemmas.Slice.Eq.{bytes_eq-Decides}
 use Rattle.std.proofs.lemmas.List.Elements.{Contains-append_cases, Contains-append_left, Contains-append_right}
 use Rattle.lb_syntax.specs.Names.{Text}
 use Rattle.lb_syntax.specs.Tree.{Procedure}
-use Rattle.lb_syntax.proofs.ProgramLemmas.{Within, here, later, is_within, contained, only, other_name}
+use Rattle.lb_builders.proofs.ProgramLemmas.{Within, here, later, is_within, contained, only, other_name}
 use Rattle.lb_gen.specs.Made.{function_name, numbered_function, numbered_functions, init_function, loop_function, entry_functions}
 use Rattle.lb_gen.proofs.NameLemmas.{same_name}
 

@@ -12,7 +12,7 @@ use Rattle.lb_syntax.specs.Rules.{function_names, IsEntry, HasEntryShape, IsBloc
 use Rattle.lb_gen.specs.Made.{r_, function_name, numbered_function, init_function, loop_function, made}
 use Rattle.lb_gen.specs.Laws.{IsLarge}
 use Rattle.lb_gen.proofs.NameLemmas.{both}
-use Rattle.lb_syntax.proofs.ProgramLemmas.{contained, is_within, mapped, other_name, no_entry}
+use Rattle.lb_builders.proofs.ProgramLemmas.{contained, is_within, mapped, other_name, no_entry}
 use Rattle.lb_gen.proofs.Members.{whole, Member, numbered, starts, goes_on, member, has_numbered, has_init, has_loop, by_name}
 use Rattle.lb_gen.proofs.CallLemmas.{never_back, init_never_back, loop_never_back, frame_is, path_most, stack_is}
 

@@ -1,7 +1,6 @@
 pub mod TreeFacts
 pub mod BlockLemmas
 pub mod DistinctLemmas
-pub mod ProgramLemmas
 pub mod SetLemmas
 pub mod OpenLemmas
 pub mod OpenTermLemmas

@@ -1,4 +1,4 @@
--- Elements of a list, and facts of programs that are built in code: names, entries and paths of calls.
+-- What proofs of built programs share: elements of lists, names, entries and paths of calls.
 use Rattle.std.proofs.Common.{◌≡◌, ℕ, zero, suc, ◌+◌, ◌<◌, inl, inr, true, false, List, [], ◌∷◌, length, map, Contains, sym, ◌∙◌, ap, arith, codes, slice_index_or}
 use Rattle.std.specs.Str.{bytes_eq}
 use Rattle.std.proofs.lemmas.Slice.Eq.{bytes_eq-Decides}
