@@ -1,5 +1,6 @@
 pub mod Cells
 pub mod Fetching
+pub mod InternalOutcomes
 pub mod MemoryMap
 pub mod Outcomes
 pub mod Ram

@@ -8,8 +8,9 @@ mod ram;
 mod registers;
 mod types;
 
-pub use fetching::at_address;
-pub use outcomes::{halt, outcome};
+pub use fetching::{at_address, decode_all};
+pub use memory_map::in_ram;
+pub use outcomes::{add_immediate, halt, outcome};
 pub use ram::Ram;
 pub use registers::Registers;
 pub use types::{Executed, Outcome};

@@ -4,8 +4,8 @@ ghost use Rattle.lb_outcome.specs.MemoryMap.{is_device_word, is_in_ram};
 
 use lb_memory::{RAM_SIZE, is_device_address};
 
-// Whether an access of this many bytes lies wholly in RAM.
-pub(crate) fn in_ram(bytes: u32, address: u32) -> bool
+/// Whether an access of `bytes` bytes, at most 4, at a byte address lies wholly in RAM.
+pub fn in_ram(bytes: u32, address: u32) -> bool
     requires { bytes ≤ 4 }
     ensures { result ≡ is_in_ram bytes address }
 {

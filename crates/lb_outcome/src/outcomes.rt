@@ -1,7 +1,8 @@
 // What an instruction comes to.
-ghost use Rattle.std.specs.Prelude.{◌≡◌, ◌≤◌, if◌then◌else◌};
+ghost use Rattle.std.specs.Prelude.{◌≡◌, ◌≤◌};
 ghost use Rattle.lb_rv.specs.Effects.{access, effect, next_address, plus_immediate};
 ghost use Rattle.lb_outcome.specs.Outcomes.{comes_to, halts, loads_at, outcome_of, plain, stores_at};
+ghost use Rattle.lb_outcome.specs.InternalOutcomes.{branches};
 
 use crate::memory_map::{device_word, in_ram};
 use crate::types::{Executed, Outcome};
@@ -19,23 +20,23 @@ pub fn outcome(i: Instr, pc: u32, left: u32, right: u32, code_bytes: u32) -> Exe
     match i {
         Instr::Lui { rd, imm } => sets(rd, imm, behind(pc)),
         Instr::Auipc { rd, imm } => sets(rd, add(pc, imm), behind(pc)),
-        Instr::Jal { rd, imm } => sets(rd, behind(pc), plus(pc, imm)),
-        Instr::Jalr { rd, imm, .. } => sets(rd, behind(pc), plus(left, imm) / 2 * 2),
+        Instr::Jal { rd, imm } => sets(rd, behind(pc), add_immediate(pc, imm)),
+        Instr::Jalr { rd, imm, .. } => sets(rd, behind(pc), add_immediate(left, imm) / 2 * 2),
         Instr::Beq { imm, .. } => branch(eq(left, right) == 1, pc, imm),
         Instr::Bne { imm, .. } => branch(eq(left, right) == 0, pc, imm),
         Instr::Blt { imm, .. } => branch(lts(left, right) == 1, pc, imm),
         Instr::Bge { imm, .. } => branch(lts(left, right) == 0, pc, imm),
         Instr::Bltu { imm, .. } => branch(ltu(left, right) == 1, pc, imm),
         Instr::Bgeu { imm, .. } => branch(ltu(left, right) == 0, pc, imm),
-        Instr::Lb { imm, .. } => load(i, pc, plus(left, imm)),
-        Instr::Lh { imm, .. } => load(i, pc, plus(left, imm)),
-        Instr::Lw { imm, .. } => load(i, pc, plus(left, imm)),
-        Instr::Lbu { imm, .. } => load(i, pc, plus(left, imm)),
-        Instr::Lhu { imm, .. } => load(i, pc, plus(left, imm)),
-        Instr::Sb { imm, .. } => store(i, pc, plus(left, imm), right, code_bytes),
-        Instr::Sh { imm, .. } => store(i, pc, plus(left, imm), right, code_bytes),
-        Instr::Sw { imm, .. } => store(i, pc, plus(left, imm), right, code_bytes),
-        Instr::Addi { rd, imm, .. } => sets(rd, plus(left, imm), behind(pc)),
+        Instr::Lb { imm, .. } => load(i, pc, add_immediate(left, imm)),
+        Instr::Lh { imm, .. } => load(i, pc, add_immediate(left, imm)),
+        Instr::Lw { imm, .. } => load(i, pc, add_immediate(left, imm)),
+        Instr::Lbu { imm, .. } => load(i, pc, add_immediate(left, imm)),
+        Instr::Lhu { imm, .. } => load(i, pc, add_immediate(left, imm)),
+        Instr::Sb { imm, .. } => store(i, pc, add_immediate(left, imm), right, code_bytes),
+        Instr::Sh { imm, .. } => store(i, pc, add_immediate(left, imm), right, code_bytes),
+        Instr::Sw { imm, .. } => store(i, pc, add_immediate(left, imm), right, code_bytes),
+        Instr::Addi { rd, imm, .. } => sets(rd, add_immediate(left, imm), behind(pc)),
         Instr::Slti { rd, imm, .. } => sets(rd, lts(left, imm.cast_unsigned()), behind(pc)),
         Instr::Sltiu { rd, imm, .. } => sets(rd, ltu(left, imm.cast_unsigned()), behind(pc)),
         Instr::Xori { rd, imm, .. } => sets(rd, xor(left, imm.cast_unsigned()), behind(pc)),
@@ -90,9 +91,13 @@ fn sets(rd: u8, value: u32, next: u32) -> Executed
 }
 
 fn branch(is_taken: bool, pc: u32, imm: i32) -> Executed
-    ensures { result ≡ comes_to (plain 0 0) (if is_taken then plus_immediate pc imm else next_address pc) }
+    ensures { result ≡ branches is_taken pc imm }
 {
-    let next = if is_taken { plus(pc, imm) } else { behind(pc) };
+    let next = if is_taken {
+        add_immediate(pc, imm)
+    } else {
+        behind(pc)
+    };
     sets(0, 0, next)
 }
 
@@ -160,8 +165,8 @@ fn behind(pc: u32) -> u32
     add(pc, 4)
 }
 
-// A sum with a signed immediate.
-fn plus(a: u32, imm: i32) -> u32
+/// The sum of a register's value or an address with a signed immediate, modulo 2^32.
+pub fn add_immediate(a: u32, imm: i32) -> u32
     ensures { result ≡ plus_immediate a imm }
 {
     add(a, imm.cast_unsigned())
