@@ -11,7 +11,7 @@ use Rattle.lb_outcome.specs.Ram.{loaded, stored}
 use Rattle.lb_outcome.specs.Registers.{with_register}
 use Rattle.lb_isa.specs.declared.processor.Stepped.{Stepped}
 use Rattle.lb_isa.specs.declared.processor.Stepped.TheVariants.{Committed, WantsReply, Halted}
-use Rattle.lb_isa.specs.State.{ProcessorState, RunState}
+use Rattle.lb_isa.specs.State.{IsaContent, ProcessorState, RunState, processor_of}
 
 -- the outcome of the word at the processor's pc, if one stands there
 abbrev pub outcome_at : List ℕ → ProcessorState → Option ℕ → Executed
@@ -54,6 +54,10 @@ next_answer code reply p = answer (upcoming code p).outcome reply
 -- the processor after this step
 abbrev pub next_processor : List ℕ → Option ℕ → ProcessorState → ProcessorState
 next_processor code reply p = after (upcoming code p).outcome (upcoming code p).next reply p
+
+-- the same of what is seen in an `Isa`
+abbrev pub after_step : Option ℕ → IsaContent → ProcessorState
+after_step reply m = next_processor m.code reply (processor_of m)
 
 -- a run whose next step answers so and leads to this processor: none where it commits nothing; a read takes a reply
 abbrev pub moved : Stepped → ProcessorState → RunState → Option RunState

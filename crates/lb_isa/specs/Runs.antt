@@ -30,6 +30,10 @@ start code entry replies = record { processor = booted code entry; replies = rep
 abbrev pub isa : List ℕ → ℕ → List ℕ → ℕ → RunState
 isa code entry replies n = run (move code) n (start code entry replies)
 
+-- how many instructions it commits
+abbrev pub commits : List ℕ → ℕ → List ℕ → ℕ → ℕ
+commits code entry replies n = (isa code entry replies n).committed
+
 -- the processor of this run is halted by this cause: it holds before the next instruction
 abbrev pub IsHaltedBy : Cause → List ℕ → RunState → Type 0
 IsHaltedBy cause code s = (upcoming code s.processor).outcome ≡ Halt cause

@@ -5,6 +5,7 @@ use Rattle.lb_rv.specs.Effects.{effect, sources}
 use Rattle.lb_outcome.specs.declared.types.Executed.{Executed}
 use Rattle.lb_outcome.specs.Outcomes.{outcome_of}
 use Rattle.lb_isa.specs.declared.runner.Ending.{Ending}
+use Rattle.lb_isa.specs.declared.runner.IsaRun.{IsaRun}
 use Rattle.lb_trace.specs.declared.Event.{Event}
 use Rattle.lb_isa.specs.State.{IsaContent, ProcessorState, RunState, processor_of}
 use Rattle.lb_isa.specs.Moves.{move, next_answer}
@@ -31,3 +32,7 @@ pub record RunnerContent : Type 0 where
 -- the run that it is
 abbrev pub run_of : RunnerContent → RunState
 run_of r = record { processor = processor_of r.isa; replies = r.replies; trace = r.trace; committed = r.committed }
+
+-- what it did, where it ends so
+abbrev pub ended_run : RunnerContent → Ending → IsaRun
+ended_run r ending = record { trace = r.trace; committed = r.committed; ending = ending }

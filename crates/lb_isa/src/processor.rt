@@ -1,22 +1,22 @@
 // One instruction at a time.
-ghost use Rattle.std.specs.Prelude.{◌≡◌, ◌<◌, map, slice_index, IfOk, None, false};
+ghost use Rattle.std.specs.Prelude.{◌≡◌, ◌<◌, slice_index, IfOk};
 ghost use Rattle.std.specs.Option.{option_map};
 ghost use Rattle.lb_rv.specs.Decoding.{instruction_of};
-ghost use Rattle.lb_rv.specs.Effects.{destination, next_address, plus_immediate};
+ghost use Rattle.lb_rv.specs.Effects.{destination};
 ghost use Rattle.lb_outcome.specs.Cells.{cells};
 ghost use Rattle.lb_outcome.specs.Fetching.{word_at};
-ghost use Rattle.lb_outcome.specs.MemoryMap.{is_in_ram};
-ghost use Rattle.lb_outcome.specs.declared.types.Outcome.TheVariants.{Load, Plain};
 ghost use Rattle.lb_isa.specs.declared.processor.Stepped.TheVariants.{Committed};
 ghost use Rattle.lb_isa.specs.State.{processor_of};
-ghost use Rattle.lb_isa.specs.Moves.{IsRefused, after, answer, goes_on, next_answer, next_processor};
+ghost use Rattle.lb_isa.specs.Moves.{IsRefused, after_step, answer, next_answer};
 ghost use Rattle.lb_isa.specs.Runs.{IsBootable, booted};
 ghost use Rattle.lb_isa.specs.Steps.{instruction_outcome};
-ghost use Rattle.lb_isa.specs.InternalExecution.{after_branch, after_doing, after_setting, answer_to};
+ghost use Rattle.lb_isa.specs.InternalExecution.{after_branch, after_doing, after_giving, after_jump};
+ghost use Rattle.lb_isa.specs.InternalExecution.{after_load, after_outcome, after_write, answer_to, with_pc};
 
-use lb_memory::RAM_SIZE;
-use lb_outcome::{Executed, Outcome, Ram, Registers, at_address, outcome};
-use lb_rv::{Cause, Instr, decode, reads, writes};
+use lb_outcome::{
+    Executed, Outcome, Ram, Registers, add_immediate, at_address, decode_all, in_ram, outcome,
+};
+use lb_rv::{Cause, Instr, reads, writes};
 use lb_trace::Event;
 use lb_word::{add, and_, divu, eq, lts, ltu, mul, mulhuu, or_, remu, slu, sru, sub, xor};
 use std::alloc::{AllocError, Global};
@@ -45,15 +45,14 @@ pub struct Isa {
 }
 
 impl Model for Isa {
-    ghost use Rattle.std.specs.Prelude.{◌≡◌, ◌≤◌, length, map};
-    ghost use Rattle.lb_rv.specs.Decoding.{instruction_of};
-    ghost use Rattle.lb_isa.specs.State.{IsaContent, most_words};
+    ghost use Rattle.lb_isa.specs.State.{IsaContent};
+    ghost use Rattle.lb_isa.specs.InternalExecution.{IsPredecoded};
 
     ghost Value = { IsaContent };
 
     ghost view = { λ m. record { code = m.code.items; pc = m.pc; registers = m.registers; ram = m.ram } };
 
-    ghost invariant = { λ m. (length m.code.items ≤ most_words) × (m.instructions.items ≡ map instruction_of m.code.items) };
+    ghost invariant = { λ m. IsPredecoded m.code.items m.instructions.items };
 }
 
 impl Isa {
@@ -65,7 +64,7 @@ impl Isa {
         ensures processor { IfOk result (λ m. processor_of m ≡ booted code.now entry) }
     {
         let ram = Ram::boot(alloc, code)?;
-        let instructions = decoded(alloc, code)?;
+        let instructions = decode_all(alloc, code)?;
         Ok(Isa {
             code: Vec::from_slice(alloc, code)?,
             instructions,
@@ -81,7 +80,7 @@ impl Isa {
     #[inline(always)]
     pub fn step(&mut self, reply: Option<u32>) -> Stepped
         ensures answer { result ≡ next_answer self.old.code reply (processor_of self.old) }
-        ensures processor { processor_of self.new ≡ next_processor self.old.code reply (processor_of self.old) }
+        ensures processor { processor_of self.new ≡ after_step reply self.old }
         ensures code { self.new.code ≡ self.old.code }
         // After WantsReply or Halted nothing has changed.
         ensures refused { IsRefused result → self.new ≡ self.old }
@@ -132,7 +131,7 @@ impl Isa {
         match i {
             Instr::Lui { rd, imm } => self.give(rd, imm),
             Instr::Addi { rd, rs1, imm } => {
-                let value = plus(self.registers.get(rs1), imm);
+                let value = add_immediate(self.registers.get(rs1), imm);
                 self.give(rd, value)
             }
             Instr::Sltiu { rd, rs1, imm } => {
@@ -140,11 +139,11 @@ impl Isa {
                 self.give(rd, value)
             }
             Instr::Jal { rd, imm } => {
-                let next = plus(self.pc, imm);
+                let next = add_immediate(self.pc, imm);
                 self.jump(rd, next)
             }
             Instr::Jalr { rd, rs1, imm } => {
-                let next = plus(self.registers.get(rs1), imm) / 2 * 2;
+                let next = add_immediate(self.registers.get(rs1), imm) / 2 * 2;
                 self.jump(rd, next)
             }
             Instr::Bne { rs1, rs2, imm } => {
@@ -246,8 +245,8 @@ impl Isa {
         let Instr::Lw { rd, rs1, imm } = i else {
             return self.by_outcome(i, reply);
         };
-        let address = plus(self.registers.get(rs1), imm);
-        if !is_word_in_ram(address) {
+        let address = add_immediate(self.registers.get(rs1), imm);
+        if !in_ram(4, address) {
             return self.by_outcome(i, reply);
         }
         let next = add(self.pc, 4);
@@ -266,8 +265,8 @@ impl Isa {
             return self.by_outcome(i, reply);
         };
         let (a, value) = self.both(rs1, rs2);
-        let address = plus(a, imm);
-        if !is_word_in_ram(address) || address < 4 * self.code.len() as u32 {
+        let address = add_immediate(a, imm);
+        if !in_ram(4, address) || address < 4 * self.code.len() as u32 {
             return self.by_outcome(i, reply);
         }
         self.ram.store(i, address, value);
@@ -297,7 +296,7 @@ impl Isa {
     // Sets a register, and goes on behind the instruction.
     fn give(&mut self, rd: u8, value: u32) -> Stepped
         ensures answer { result ≡ Committed None }
-        ensures processor { processor_of self.new ≡ after_setting rd value (next_address self.old.pc) self.old }
+        ensures processor { processor_of self.new ≡ after_giving rd value self.old }
         ensures code { self.new.code ≡ self.old.code }
     {
         let next = add(self.pc, 4);
@@ -308,7 +307,7 @@ impl Isa {
     // Sets a register to the address behind the instruction, and goes on at this one.
     fn jump(&mut self, rd: u8, next: u32) -> Stepped
         ensures answer { result ≡ Committed None }
-        ensures processor { processor_of self.new ≡ after_setting rd (next_address self.old.pc) next self.old }
+        ensures processor { processor_of self.new ≡ after_jump rd next self.old }
         ensures code { self.new.code ≡ self.old.code }
     {
         let behind = add(self.pc, 4);
@@ -323,7 +322,7 @@ impl Isa {
         ensures code { self.new.code ≡ self.old.code }
     {
         let next = if is_taken {
-            plus(self.pc, imm)
+            add_immediate(self.pc, imm)
         } else {
             add(self.pc, 4)
         };
@@ -348,7 +347,7 @@ impl Isa {
     // Does what the outcome says.
     fn commit(&mut self, outcome: Outcome, next: u32, reply: Option<u32>) -> Stepped
         ensures answer { result ≡ answer outcome reply }
-        ensures processor { processor_of self.new ≡ after outcome next reply (processor_of self.old) }
+        ensures processor { processor_of self.new ≡ after_outcome outcome next reply self.old }
         ensures code { self.new.code ≡ self.old.code }
         ensures refused { IsRefused result → self.new ≡ self.old }
     {
@@ -399,7 +398,7 @@ impl Isa {
     fn load(&mut self, rd: u8, i: Instr, address: u32, next: u32) -> Stepped
         requires { rd ≡ destination i }
         ensures answer { result ≡ Committed None }
-        ensures processor { processor_of self.new ≡ after (Load i address false None) next None (processor_of self.old) }
+        ensures processor { processor_of self.new ≡ after_load i address next self.old }
         ensures code { self.new.code ≡ self.old.code }
     {
         let value = self.ram.load(i, address);
@@ -409,7 +408,7 @@ impl Isa {
     // Sets a register, and goes on at this address.
     fn set(&mut self, rd: u8, value: u32, next: u32, event: Option<Event>) -> Stepped
         ensures answer { result ≡ Committed event }
-        ensures processor { processor_of self.new ≡ after (Plain rd value) next None (processor_of self.old) }
+        ensures processor { processor_of self.new ≡ after_write rd value next self.old }
         ensures code { self.new.code ≡ self.old.code }
     {
         self.registers.set(rd, value);
@@ -419,31 +418,10 @@ impl Isa {
     // Goes on at this address.
     fn go_to(&mut self, next: u32, event: Option<Event>) -> Stepped
         ensures answer { result ≡ Committed event }
-        ensures processor { processor_of self.new ≡ goes_on next (cells self.old.registers) (cells self.old.ram) }
+        ensures processor { processor_of self.new ≡ with_pc next self.old }
         ensures code { self.new.code ≡ self.old.code }
     {
         self.pc = next;
         Stepped::Committed { event }
     }
-}
-
-// The instruction of each word. Fails only for want of memory.
-fn decoded(alloc: Global, code: &[u32]) -> Result<Vec<Option<Instr>>, AllocError>
-    ensures { IfOk result (λ instructions. instructions.items ≡ map instruction_of code.now) }
-{
-    code.iter().map(|word| decode(*word)).collect(alloc)
-}
-
-// A sum with a signed immediate.
-fn plus(a: u32, imm: i32) -> u32
-    ensures { result ≡ plus_immediate a imm }
-{
-    add(a, imm.cast_unsigned())
-}
-
-// Whether a word at this address lies wholly in RAM.
-fn is_word_in_ram(address: u32) -> bool
-    ensures { result ≡ is_in_ram 4 address }
-{
-    address <= RAM_SIZE - 4
 }

@@ -1,6 +1,6 @@
 // A run of a code from boot.
 ghost use Rattle.std.specs.Prelude.{◌≡◌, ◌≤◌, drop, length, IfOk};
-ghost use Rattle.lb_isa.specs.Runs.{IsBootable, isa, isa_ending};
+ghost use Rattle.lb_isa.specs.Runs.{IsBootable, commits, isa, isa_ending};
 
 use crate::processor::{Isa, Stepped};
 use lb_rv::Cause;
@@ -51,7 +51,7 @@ impl<'a> Model for Runner<'a> {
 impl<'a> Runner<'a> {
     ghost use Rattle.std.specs.Prelude.{◌≡◌, ◌<◌, ◌≤◌, length, IfOk};
     ghost use Rattle.lb_isa.specs.Runs.{IsBootable, start};
-    ghost use Rattle.lb_isa.specs.Steps.{Advances, run_of};
+    ghost use Rattle.lb_isa.specs.Steps.{Advances, ended_run, run_of};
 
     // A run before its first instruction. Fails only for want of memory.
     fn boot(
@@ -76,7 +76,7 @@ impl<'a> Runner<'a> {
     // Does one more instruction, or tells how the run ends. Fails only for want of memory.
     fn advance(&mut self) -> Result<Option<Ending>, AllocError>
         requires { self.old.committed < u32.MAX }
-        ensures run { IfOk result (λ ending. Advances self.old.isa.code (run_of self.old) (run_of self.new) ending) }
+        ensures run { IfOk result (Advances self.old.isa.code (run_of self.old) (run_of self.new)) }
         ensures code { IfOk result (λ ending. self.new.isa.code ≡ self.old.isa.code) }
     {
         let reply = self.replies.first().copied();
@@ -105,7 +105,7 @@ impl<'a> Runner<'a> {
 
     // What the run did.
     fn into_run(self, ending: Ending) -> IsaRun
-        ensures { result ≡ record { trace = self.entry.trace; committed = self.entry.committed; ending = ending } }
+        ensures { result ≡ ended_run self.entry ending }
     {
         let Runner {
             trace,
@@ -141,7 +141,7 @@ pub fn run(
 ) -> Result<IsaRun, AllocError>
     requires { IsBootable code.now entry }
     ensures trace { IfOk result (λ run. run.trace ≡ (isa code.now entry replies.now limit).trace) }
-    ensures committed { IfOk result (λ run. run.committed ≡ (isa code.now entry replies.now limit).committed) }
+    ensures committed { IfOk result (λ run. run.committed ≡ commits code.now entry replies.now limit) }
     ensures ending { IfOk result (λ run. run.ending ≡ isa_ending code.now entry replies.now limit) }
 {
     let mut runner = Runner::boot(alloc, code, entry, replies)?;
