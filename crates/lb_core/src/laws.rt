@@ -27,7 +27,7 @@ pub fn booted_fits()
     ensures { BootedFits }
 {}
 
-/// So it stays.
+/// Firing a kind that is enabled keeps every queue within its capacity.
 pub fn rows_fit()
     ensures { RowsFit }
 {}

@@ -1,6 +1,5 @@
 // The core: its state and its rows.
-ghost use Rattle.std.specs.Prelude.{◌≡◌, ◌≤◌, ◌<◌, ◌^◌, ◌-◌, ◌+◌, ◌∷◌, length, slice_index, true, false, [], drop, is_none, map, not, Some, IfOk};
-ghost use Rattle.lb_rv.specs.Decoding.{instruction_of};
+ghost use Rattle.std.specs.Prelude.{◌≡◌, ◌<◌, ◌^◌, ◌-◌, length, slice_index, true, [], is_none, not, IfOk};
 ghost use Rattle.lb_outcome.specs.Fetching.{instruction_in, word_at};
 ghost use Rattle.lb_trace.specs.declared.Kind.TheVariants.{Mmio};
 ghost use Rattle.lb_isa.specs.Runs.{IsBootable};
@@ -15,8 +14,8 @@ use crate::scoreboard::{clear_of_items, clear_of_outcomes, sources_of};
 use lb_exec::{DecodeItem, Executed, Outcome, execute, writes};
 use lb_fifo::Fifo;
 use lb_front::{FetchItem, Front};
-use lb_outcome::{Ram, Registers, at_address};
-use lb_rv::{Cause, Instr, decode};
+use lb_outcome::{Ram, Registers, at_address, decode_all};
+use lb_rv::{Cause, Instr};
 use lb_trace::{Event, Kind};
 use std::alloc::{AllocError, Global};
 use std::marker::Model;
@@ -40,18 +39,27 @@ pub struct Core {
 }
 
 impl Model for Core {
-    ghost use Rattle.std.specs.Prelude.{◌≤◌, ◌^◌, ◌-◌, length};
-    ghost use Rattle.lb_isa.specs.State.{most_words};
-    ghost use Rattle.lb_core.specs.InternalSteps.{IsPredecoded};
+    ghost use Rattle.lb_core.specs.InternalSteps.{IsKept};
     ghost use Rattle.lb_core.specs.State.{CoreContent};
 
     ghost Value = { CoreContent };
 
-    ghost view = { λ c. record { code = c.code.items; entry = c.entry; front = c.front; fetched = c.fetched; decoded = c.decoded; outcomes = c.outcomes; registers = c.registers; ram = c.ram; retired = c.retired; halted = c.halted } };
+    ghost view = { λ c. record {
+      code = c.code.items;
+      entry = c.entry;
+      front = c.front;
+      fetched = c.fetched;
+      decoded = c.decoded;
+      outcomes = c.outcomes;
+      registers = c.registers;
+      ram = c.ram;
+      retired = c.retired;
+      halted = c.halted;
+    } };
 
-    // By the bound on `retired`, `done` never overflows. A fetched item has the code's word, so its instruction is found by its
-    // address.
-    ghost invariant = { λ c. (length c.code.items ≤ most_words) × (c.retired ≤ 2 ^ 64 - 2) × IsPredecoded c.code.items c.instructions.items c.fetched };
+    // By the bound on `retired`, `done` never overflows. A fetched item has the code's word, so its instruction is found
+    // by its address.
+    ghost invariant = { λ c. IsKept c.code.items c.instructions.items c.fetched c.retired };
 }
 
 impl Core {
@@ -63,7 +71,7 @@ impl Core {
         ensures stands { IfOk result (λ c. Stands (state_of c) []) }
     {
         let ram = Ram::boot(alloc, code)?;
-        let instructions = decoded(alloc, code)?;
+        let instructions = decode_all(alloc, code)?;
         Ok(Core {
             code: Vec::from_slice(alloc, code)?,
             instructions,
@@ -473,11 +481,4 @@ fn is_halt(outcome: &Outcome) -> bool
     ensures { result ≡ is_halt_of outcome.now }
 {
     matches!(*outcome, Outcome::Halt { .. })
-}
-
-// The instruction of each word. Fails only for want of memory.
-fn decoded(alloc: Global, code: &[u32]) -> Result<Vec<Option<Instr>>, AllocError>
-    ensures { IfOk result (λ instructions. instructions.items ≡ map instruction_of code.now) }
-{
-    code.iter().map(|word| decode(*word)).collect(alloc)
 }
