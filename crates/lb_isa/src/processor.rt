@@ -50,7 +50,12 @@ impl Model for Isa {
 
     ghost Value = { IsaContent };
 
-    ghost view = { λ m. record { code = m.code.items; pc = m.pc; registers = m.registers; ram = m.ram } };
+    ghost view = { λ m. record {
+      code = m.code.items;
+      pc = m.pc;
+      registers = m.registers;
+      ram = m.ram;
+    } };
 
     ghost invariant = { λ m. IsPredecoded m.code.items m.instructions.items };
 }

@@ -45,7 +45,12 @@ impl<'a> Model for Runner<'a> {
 
     ghost Value = { RunnerContent };
 
-    ghost view = { λ r. record { isa = r.isa; replies = r.replies.now; trace = r.trace.items; committed = r.committed } };
+    ghost view = { λ r. record {
+      isa = r.isa;
+      replies = r.replies.now;
+      trace = r.trace.items;
+      committed = r.committed;
+    } };
 }
 
 impl<'a> Runner<'a> {
