@@ -36,7 +36,8 @@ impl<W: Write> Sink for StdSink<W> {
             result bytes.now }
         ensures later { self.old.faults ≤ self.new.faults }
         ensures cause { TakesNothing result bytes.now → Rose self.old.faults self.new.faults }
-        ensures counted { TakesNothing result bytes.now → self.new.faults ≡ next_count self.old.faults }
+        ensures counted { TakesNothing result bytes.now →
+            self.new.faults ≡ next_count self.old.faults }
         ensures steady { ¬ TakesNothing result bytes.now → self.new.faults ≡ self.old.faults }
     {
         let taken = self.inner.write(bytes);

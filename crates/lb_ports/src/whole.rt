@@ -32,7 +32,8 @@ pub fn read_all<I: Source>(
     input: &mut I,
     limit: u32,
 ) -> Result<Vec<u8>, ReadAllFault>
-    ensures all { IfOk result (λ bytes. ReadsAll (I.left input.old) (I.left input.new) bytes.items) }
+    ensures all { IfOk result (λ bytes.
+        ReadsAll (I.left input.old) (I.left input.new) bytes.items) }
     ensures within { IfOk result (λ bytes. vec_len bytes ≤ limit) }
     ensures too_long { IsErrOf result ReadAllFault.TooLong →
         ReadsMoreThan (I.left input.old) (I.left input.new) limit }
