@@ -44,6 +44,10 @@ repeat_at read (suc n) bytes = do
   others ← repeat_at read n first.1
   Ok (first.0 ∷ others.0, others.1)
 
+-- the words of so many fields, and the bytes behind them
+abbrev pub fields_at : ℕ → Field → ℕ → List ℕ → Result (List ℕ × List ℕ) ImageFault
+fields_at len f count bytes = repeat_at (field_at len f) count bytes
+
 unfoldable pub frame_at : ℕ → List ℕ → Result (FrameLayout × List ℕ) ImageFault
 frame_at len bytes = do
   size ← field_at len size_field bytes

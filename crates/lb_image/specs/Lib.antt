@@ -3,3 +3,4 @@ pub mod Fields
 pub mod Refusal
 pub mod Laws
 pub mod InternalReading
+pub mod InternalWriting

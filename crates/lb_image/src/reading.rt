@@ -4,7 +4,8 @@ ghost use Rattle.lb_syntax.specs.declared.limits.TheConstants.{MOST_FUNCTIONS, M
 ghost use Rattle.lb_image.specs.Images.{image_bytes, IsImage};
 ghost use Rattle.lb_image.specs.Fields.{fault, is_in};
 ghost use Rattle.lb_image.specs.Refusal.{IsOnlyImage, FaultOf};
-ghost use Rattle.lb_image.specs.InternalReading.{Gives, field_at, repeat_at, frame_at, header_at, image_at, most_frame_bytes};
+ghost use Rattle.lb_image.specs.InternalReading.{Gives, field_at, fields_at, repeat_at, frame_at, header_at};
+ghost use Rattle.lb_image.specs.InternalReading.{image_at, most_frame_bytes};
 
 use crate::error::{ImageError, ImageFault, ImageKind};
 use crate::field::{Field, MAGIC, VERSION};
@@ -140,7 +141,7 @@ fn read_fields(
 ) -> Result<(Vec<u32>, &[u8]), ImageError>
     requires within { length bytes.now ≤ len }
     requires near { len + 4 * count < length bytes.now + 2 ^ 32 }
-    ensures read { Gives (λ x. (x.0.items, x.1.now)) result (repeat_at (field_at len field) count bytes.now) }
+    ensures read { Gives (λ x. (x.0.items, x.1.now)) result (fields_at len field count bytes.now) }
     ensures left { IfOk result (λ x. length bytes.now ≡ length x.1.now + 4 * count) }
 {
     let mut words = Vec::new(alloc);

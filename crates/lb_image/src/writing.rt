@@ -1,6 +1,7 @@
 // From an image to its bytes.
 ghost use Rattle.std.specs.Prelude.{◌≡◌, ◌^◌, ◌<◌, ◌++◌, length, All, IfOk, OnOk};
-ghost use Rattle.lb_image.specs.Images.{bytes_of_words, frame_words, image_bytes, layout_words, IsInRange};
+ghost use Rattle.lb_image.specs.Images.{bytes_of_words, image_bytes, IsInRange};
+ghost use Rattle.lb_image.specs.InternalWriting.{frame_bytes, layout_bytes};
 
 use crate::field::{MAGIC, VERSION};
 use crate::image::Image;
@@ -29,7 +30,7 @@ pub fn to_bytes(alloc: Global, image: &Image) -> Result<Vec<u8>, AllocError>
 // Adds the bytes of the frames.
 fn push_frames(bytes: &mut Vec<u8>, frames: &[FrameLayout]) -> Result<(), AllocError>
     requires { All (λ frame. length frame.sites < 2 ^ 32) frames.now }
-    ensures { OnOk result (bytes.new.items ≡ bytes.old.items ++ bytes_of_words (layout_words frames.now)) }
+    ensures { OnOk result (bytes.new.items ≡ bytes.old.items ++ layout_bytes frames.now) }
 {
     for frame in frames {
         push_frame(bytes, frame)?;
@@ -40,7 +41,7 @@ fn push_frames(bytes: &mut Vec<u8>, frames: &[FrameLayout]) -> Result<(), AllocE
 // Adds the bytes of a frame.
 fn push_frame(bytes: &mut Vec<u8>, frame: &FrameLayout) -> Result<(), AllocError>
     requires { length frame.now.sites < 2 ^ 32 }
-    ensures { OnOk result (bytes.new.items ≡ bytes.old.items ++ bytes_of_words (frame_words frame.now)) }
+    ensures { OnOk result (bytes.new.items ≡ bytes.old.items ++ frame_bytes frame.now) }
 {
     let sites = frame.sites.as_slice();
     push_words(bytes, &[frame.size, sites.len() as u32])?;
