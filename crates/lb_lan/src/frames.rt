@@ -5,8 +5,8 @@ ghost use Rattle.lb_lan.specs.Frames.{words_of};
 use crate::queue::Queue;
 use lb_word::word_of;
 
-/// The most words of data that wait.
-pub(crate) const MOST_WORDS: usize = 4096;
+/// The most words of data that wait in the receive FIFO.
+pub(crate) const MOST_FIFO_WORDS: usize = 4096;
 
 // How many words the bytes take.
 pub(crate) fn word_count(bytes: &[u8]) -> usize
@@ -17,10 +17,10 @@ pub(crate) fn word_count(bytes: &[u8]) -> usize
 }
 
 // Adds the words of the bytes behind the others.
-pub(crate) fn push_words(queue: &mut Queue<u32, MOST_WORDS>, bytes: &[u8])
-    requires { length queue.old + length (words_of bytes.now) ≤ MOST_WORDS }
+pub(crate) fn push_words(queue: &mut Queue<u32, MOST_FIFO_WORDS>, bytes: &[u8])
+    requires { length queue.old + length (words_of bytes.now) ≤ MOST_FIFO_WORDS }
     ensures words { queue.new ≡ queue.old ++ words_of bytes.now }
-    ensures fits { length queue.new ≤ MOST_WORDS }
+    ensures fits { length queue.new ≤ MOST_FIFO_WORDS }
 {
     for n in 0..word_count(bytes) {
         queue.push(word_at(bytes, 4 * n));
@@ -29,7 +29,7 @@ pub(crate) fn push_words(queue: &mut Queue<u32, MOST_WORDS>, bytes: &[u8])
 
 // The word at a place, where bytes past the end are 0.
 fn word_at(bytes: &[u8], at: usize) -> u32
-    requires { at ≤ 4 * MOST_WORDS }
+    requires { at ≤ 4 * MOST_FIFO_WORDS }
     ensures { result ≡ slice_index (words_of (drop at bytes.now)) 0 }
 {
     word_of([

@@ -6,7 +6,7 @@ ghost use Rattle.lb_lan.specs.Transaction.{new_lan};
 ghost use Rattle.lb_lan.specs.Phases.{next_phase, next_chip, phase_answer, view_of, view_exchanged, view_answer, view_released, view_with_chip};
 ghost use Rattle.lb_lan.specs.Calls.{TakesByte, Answers, Releases, Wakes, Receives};
 
-use crate::frames::{MOST_WORDS, push_words, word_count};
+use crate::frames::{MOST_FIFO_WORDS, push_words, word_count};
 use crate::phase::{Phase, address, after_instruction};
 use crate::queue::Queue;
 use crate::registers::{Register, register_at};
@@ -28,7 +28,7 @@ const NOTHING_READ: u8 = 0xFF;
 pub struct Lan {
     awake: bool,
     statuses: Queue<u32, MOST_STATUSES>,
-    words: Queue<u32, MOST_WORDS>,
+    words: Queue<u32, MOST_FIFO_WORDS>,
     hw_cfg: u32,
     mac_csr_cmd: u32,
     mac_csr_data: u32,
@@ -56,7 +56,8 @@ impl Model for Lan {
       phase = l.phase;
     } };
 
-    ghost invariant = { λ l. (length l.statuses ≤ most_statuses) × (4 * length l.words ≤ most_data) };
+    ghost invariant = { λ l. (length l.statuses ≤ most_statuses)
+        × (4 * length l.words ≤ most_data) };
 }
 
 impl Lan {
@@ -129,7 +130,7 @@ impl Lan {
         self.awake
             && self.mac_control >> 2 & 1 == 1
             && self.statuses.len() < MOST_STATUSES
-            && self.words.len() + word_count(frame.bytes()) <= MOST_WORDS
+            && self.words.len() + word_count(frame.bytes()) <= MOST_FIFO_WORDS
     }
 
     /// Lets the frame arrive: its status joins those that wait, and its words likewise.

@@ -21,7 +21,8 @@ impl<T: Copy, const N: usize> Model for Queue<T, N> {
 
     ghost view = { λ q. q.items.items };
 
-    ghost invariant = { λ q. (deque_capacity q.items ≡ N) × (deque_len q.items ≡ length q.items.items) };
+    ghost invariant = { λ q. (deque_capacity q.items ≡ N)
+        × (deque_len q.items ≡ length q.items.items) };
 }
 
 impl<T: Copy, const N: usize> Queue<T, N> {
