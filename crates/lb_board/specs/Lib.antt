@@ -4,3 +4,4 @@ pub mod Rows
 pub mod Steps
 pub mod Pins
 pub mod Calls
+pub mod InternalModes

@@ -1,10 +1,11 @@
 // The board and its rows.
-ghost use Rattle.std.specs.Prelude.{◌≡◌, ◌≤◌, [], IfOk, length, slice_get, slice_index, true};
+ghost use Rattle.std.specs.Prelude.{◌≡◌, ◌≤◌, [], IfOk, length, slice_index, true};
 ghost use Rattle.lb_trace.specs.declared.Kind.TheVariants.{Boot, Shift, Arrive};
 ghost use Rattle.lb_lan.specs.Queue.{front_or};
 ghost use Rattle.lb_board.specs.Script.{IsScript};
 ghost use Rattle.lb_board.specs.Registers.{register_at, value_in, read_in, pushed, is_lit};
-ghost use Rattle.lb_board.specs.Rows.{by_phase, selected, written_in, can_arrive, is_enabled, shifted_in, acted};
+ghost use Rattle.lb_board.specs.Rows.{by_phase, written_in, is_enabled, shifted_in, acted};
+ghost use Rattle.lb_board.specs.InternalModes.{with_mode};
 ghost use Rattle.lb_board.specs.Steps.{Reads, Writes, Acts, board, view_of};
 ghost use Rattle.lb_board.specs.Calls.{Does, Tells, TellsLastWritten, Guards, ShiftsIn, Shines, CountsArrivals, TellsScript};
 
@@ -218,7 +219,7 @@ impl Board {
 
     // Sets the bus's mode; where no chip is selected any more, the transaction ends.
     fn set_mode(&mut self, mode: u32)
-        ensures { self.new ≡ record self.old { csmode = mode; lan = selected by_phase mode self.old.lan } }
+        ensures { self.new ≡ with_mode mode self.old }
     {
         self.csmode = mode;
         if mode != SELECTED {
@@ -262,7 +263,7 @@ impl Board {
 
     // Whether a frame is left and has room.
     fn can_arrive(&self) -> bool
-        ensures { result ≡ can_arrive by_phase (slice_get self.now.frames self.now.arrived) self.now.lan }
+        ensures { result ≡ is_enabled by_phase Arrive self.now }
     {
         match self.frames.get(self.arrived as usize) {
             Some(frame) => self.lan.accepts(frame),
