@@ -3,6 +3,7 @@ pub mod AnswerLemmas
 pub mod ByteLemmas
 pub mod CutLemmas
 pub mod FrameLemmas
+pub mod LetterLemmas
 pub mod LineLemmas
 pub mod LogLemmas
 pub mod OptionLemmas

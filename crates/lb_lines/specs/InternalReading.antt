@@ -1,7 +1,8 @@
 -- What private contracts cite: how a line is read behind others, and the digits in it.
-use Rattle.std.specs.Prelude.{◌≡◌, ℕ, ◌+◌, ◌<◌, true, List, [], ◌∷◌, ◌++◌, length, filter, All}
+use Rattle.std.specs.Prelude.{◌≡◌, ℕ, ◌+◌, ◌<◌, true, List, [], ◌∷◌, ◌++◌, ◌==◌, length, filter, find, All, Option}
 use Rattle.std.specs.Char.{digit_char, to_ascii_lowercase}
 use Rattle.lb_trace.specs.declared.Entry.{Entry}
+use Rattle.lb_trace.specs.declared.Kind.{Kind}
 use Rattle.lb_trace.specs.Frame.{FrameContent}
 use Rattle.lb_lines.specs.declared.fault.LineKind.TheVariants.{Malformed}
 use Rattle.lb_lines.specs.declared.fault.LineError.{LineError}
@@ -48,6 +49,10 @@ RefusesAt form number piece before Memory = Unit {0}
 pub record IsDigit (c d : ℕ) : Type 0 where
   pub below : d < 16
   pub char : to_ascii_lowercase c ≡ digit_char d
+
+-- the first of these kinds that has this letter
+abbrev pub kind_among : ℕ → List Kind → Option Kind
+kind_among letter kinds = find (λ kind. kind_letter kind == letter) kinds
 
 -- two characters are an entry
 pub record IsEntry (letter digit : ℕ) (entry : Entry) : Type 0 where

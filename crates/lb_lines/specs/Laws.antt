@@ -27,7 +27,7 @@ LogSaysItself =
     (first : ℕ) (log : List Entry) (text : List ℕ) → All HasDigit log → IsLogText log text
     → Say log_form (lines_of first text) log
 
--- lines say one list of values, or have one first line outside the form, and never both
+-- lines say at most one list of values and have at most one first line outside the form, and never both
 pub record IsOneAnswer {A : Type 0} (form : Form A) : Type 0 where
   pub one_list : (lines : List (ℕ × List ℕ)) (xs ys : List A)
       → Say form lines xs → Say form lines ys → xs ≡ ys

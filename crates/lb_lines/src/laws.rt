@@ -8,7 +8,7 @@ pub fn printed_says_itself()
     ensures log { LogSaysItself }
 {}
 
-/// A text is read as one list of values, or has one first line outside its form, and never both.
+/// A text says at most one list of values and has at most one first line outside its form, and never both.
 pub fn one_answer()
     ensures trace { IsOneAnswer trace_form }
     ensures replies { IsOneAnswer reply_form }

@@ -5,7 +5,7 @@ ghost use Rattle.lb_trace.specs.declared.Entry.{Entry};
 ghost use Rattle.lb_trace.specs.declared.Kind.{Kind};
 ghost use Rattle.lb_lines.specs.Log.{kind_letter, entry_text, HasDigit, log_line, IsLogText};
 ghost use Rattle.lb_lines.specs.Forms.{log_form};
-ghost use Rattle.lb_lines.specs.InternalReading.{IsEntry};
+ghost use Rattle.lb_lines.specs.InternalReading.{IsEntry, kind_among};
 
 use crate::fault::LineKind;
 use crate::form::{LineForm, Refusal};
@@ -14,6 +14,19 @@ use std::alloc::{AllocError, Global};
 
 /// The most entries of a printed line.
 const LINE_ENTRIES: usize = 32;
+
+/// All kinds, each of which has a letter.
+const KINDS: [Kind; 9] = [
+    Kind::Fetch,
+    Kind::Decode,
+    Kind::Execute,
+    Kind::Ram,
+    Kind::Mmio,
+    Kind::Writeback,
+    Kind::Boot,
+    Kind::Shift,
+    Kind::Arrive,
+];
 
 impl LineForm for Entry {
     ghost form = { log_form };
@@ -60,18 +73,14 @@ fn kind(letter: u8) -> Option<Kind>
     ensures found { IfSome result (λ kind. letter ≡ kind_letter kind) }
     ensures none { IfNone result ((kind : Kind) → letter ≡ kind_letter kind → ⊥) }
 {
-    match letter {
-        b'F' => Some(Kind::Fetch),
-        b'D' => Some(Kind::Decode),
-        b'X' => Some(Kind::Execute),
-        b'R' => Some(Kind::Ram),
-        b'M' => Some(Kind::Mmio),
-        b'W' => Some(Kind::Writeback),
-        b'B' => Some(Kind::Boot),
-        b'S' => Some(Kind::Shift),
-        b'A' => Some(Kind::Arrive),
-        _ => None,
-    }
+    kind_among(&KINDS, letter)
+}
+
+// The first of these kinds that has this letter.
+fn kind_among(kinds: &[Kind], wanted: u8) -> Option<Kind>
+    ensures { result ≡ kind_among wanted kinds.now }
+{
+    kinds.iter().copied().find(|kind| letter(*kind) == wanted)
 }
 
 // The letter of a kind.

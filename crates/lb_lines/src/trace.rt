@@ -60,7 +60,7 @@ fn pair(text: &[u8]) -> Option<(u32, u32)>
     Some((word(addr)?, word(value)?))
 }
 
-// What follows this beginning of a text.
+/// What follows `beginning` in a text; none where the text has another beginning.
 pub fn after<'a>(text: &'a [u8], beginning: &[u8]) -> Option<&'a [u8]>
     ensures found { IfSome result (λ rest. text.now ≡ beginning.now ++ rest.now) }
     ensures none { IfNone result ((rest : List ℕ) → text.now ≡ beginning.now ++ rest → ⊥) }
