@@ -1,6 +1,6 @@
 -- Each step raises the potential, which is bounded, and the queues keep their capacities.
 use Rattle.std.proofs.Common.{◌≡◌, ◌≤◌, ◌<◌, ℕ, ◌+◌, ◌*◌, Bool, true, false, not, ◌||◌, List, [], ◌∷◌, ◌++◌, map, length, Option, Some, None, is_none, refl, sym, ap, ◌∙◌, arith}
-use Rattle.std.proofs.lemmas.List.{append_assoc}
+use Rattle.std.proofs.lemmas.List.{append_assoc, length-append}
 use Rattle.std.proofs.lemmas.Bool.{and_parts, ltb-true}
 use Rattle.lb_trace.specs.declared.Kind.TheVariants.{Fetch, Decode, Execute, Ram, Mmio, Writeback, Boot, Shift, Arrive}
 use Rattle.lb_rv.specs.declared.instr.Cause.{Cause}
@@ -20,10 +20,6 @@ use Rattle.lb_core.specs.Potential.{Fits, credit, current_items, debt, one_if, o
 use Rattle.lb_core.specs.Laws.{BootedFits, PotentialIsBounded, PotentialRises, RowsFit}
 use Rattle.lb_core.proofs.Tools.{is_none_None}
 use Rattle.lb_core.proofs.EpochLemmas.{same_same, waiting_decoded}
-
-length_snoc : {A : Type 0} (xs : List A) (y : A) → length (xs ++ y ∷ []) ≡ length xs + 1
-length_snoc [] y = refl
-length_snoc (x ∷ xs) y = let h = length_snoc xs y in omega (arith, h)
 
 length_waiting : (ds : List DecodeItem) (its : List FetchItem) → length (map fetched_part ds ++ its) ≡ length ds + length its
 length_waiting [] its = omega arith
@@ -61,7 +57,7 @@ fetch_rises c =
     let a : current_items c.front.epoch (waiting (after_fetch c)) ≡ current_items c.front.epoch (waiting c) + 1 =
     ap (current_items c.front.epoch) (sym (append_assoc (map fetched_part c.decoded) c.fetched (it ∷ [])))
     ∙ current_snoc c.front.epoch (waiting c) it (same_same c.front.epoch) in
-    let l = length_snoc c.fetched it in omega (arith, a, l)
+    let l = length-append c.fetched (it ∷ []) in omega (arith, a, l)
 
 decode_rises : (c : CoreState) (f : List FetchItem) → can_decode f c ≡ true
     → credit (record c { fetched = f }) + debt (after_decode f (record c { fetched = f })) + 1
@@ -72,7 +68,7 @@ decode_rises c (it ∷ its) g =
     let a : current_items c.front.epoch (map fetched_part (c.decoded ++ new ∷ []) ++ its)
     ≡ current_items c.front.epoch (map fetched_part c.decoded ++ it ∷ its) =
     ap (current_items c.front.epoch) (sym (waiting_decoded c.decoded it its c.registers)) in
-    let l = length_snoc c.decoded new in omega (arith, a, l)
+    let l = length-append c.decoded (new ∷ []) in omega (arith, a, l)
 
 front_rises : (os : List Outcome) (o : Outcome) → one_if (is_front_served os) ≤ one_if (is_front_served (os ++ o ∷ []))
 front_rises [] o = omega arith
@@ -87,13 +83,13 @@ module _ (c : CoreState) (d : DecodeItem) (ds : List DecodeItem) (x : Executed) 
       → credit (record c { decoded = d ∷ ds }) + debt (after_prediction b x d (record c { decoded = ds; outcomes = c.outcomes ++ x.outcome ∷ [] })) + 1
       ≤ credit (after_prediction b x d (record c { decoded = ds; outcomes = c.outcomes ++ x.outcome ∷ [] })) + debt (record c { decoded = d ∷ ds })
   prediction_rises true f g =
-      let l = length_snoc c.outcomes x.outcome in
+      let l = length-append c.outcomes (x.outcome ∷ []) in
       let w = length_waiting ds c.fetched in
       let m = current_most c.front.epoch (map fetched_part ds ++ c.fetched) in
       let o = one_at_most (same_epoch d.epoch c.front.epoch) in
       let s = front_rises c.outcomes x.outcome in omega (arith, l, w, m, o, s, f, g)
   prediction_rises false f g =
-      let l = length_snoc c.outcomes x.outcome in
+      let l = length-append c.outcomes (x.outcome ∷ []) in
       let o = one_at_most (same_epoch d.epoch c.front.epoch) in
       let s = front_rises c.outcomes x.outcome in omega (arith, l, o, s, f, g)
 
@@ -167,7 +163,7 @@ decode_fits : (c : CoreState) (f : List FetchItem) → can_decode f c ≡ true �
     → Fits (after_decode f (record c { fetched = f }))
 decode_fits c [] g f = f
 decode_fits c (it ∷ its) g f =
-    let l = length_snoc c.decoded (decoded_item it c.registers) in
+    let l = length-append c.decoded (decoded_item it c.registers ∷ []) in
     let r = room c.decoded (and_parts (has_room c.decoded) (uses_none (instruction_in it.word) (pending c)) g).0 in
     let n = f.fetched in record { fetched = omega (arith, n); decoded = omega (arith, l, r); outcomes = f.outcomes }
 
@@ -177,7 +173,7 @@ prediction_fits false x d c f = f
 
 item_fits : (b : Bool) (x : Executed) (d : DecodeItem) (c : CoreState) → (not b || has_room c.outcomes) ≡ true → Fits c → Fits (after_item b x d c)
 item_fits true x d c g f =
-    let l = length_snoc c.outcomes x.outcome in
+    let l = length-append c.outcomes (x.outcome ∷ []) in
     let r = room c.outcomes g in
     prediction_fits (is_mispredicted x d) x d (record c { outcomes = c.outcomes ++ x.outcome ∷ [] })
     (record { fetched = f.fetched; decoded = f.decoded; outcomes = omega (arith, l, r) })
@@ -212,7 +208,7 @@ end_fits c (Halt cause ∷ os) f = record { fetched = f.fetched; decoded = f.dec
 
 pub rows_fit : RowsFit
 rows_fit c Fetch reply f on =
-    let l = length_snoc c.fetched (fetched_item c.front c.code) in
+    let l = length-append c.fetched (fetched_item c.front c.code ∷ []) in
     let r = room c.fetched (and_parts (is_none c.halted) (guard c Fetch) on).1 in
     record { fetched = omega (arith, l, r); decoded = f.decoded; outcomes = f.outcomes }
 rows_fit c Decode reply f on = decode_fits c c.fetched (and_parts (is_none c.halted) (guard c Decode) on).1 f
