@@ -17,4 +17,6 @@ ReadsMoreThan old new limit = (bytes : List ℕ) × Consumes old new bytes × (l
 
 -- a front of the bytes was appended, and not all of them
 abbrev pub AppendsPrefix : Option (List ℕ) → Option (List ℕ) → List ℕ → Type 0
-AppendsPrefix old new bytes = (front : List ℕ) × (rest : List ℕ) × (bytes ≡ front ++ rest) × (0 < length rest) × Appends old new front
+AppendsPrefix old new bytes =
+    (front : List ℕ) × (rest : List ℕ) × (bytes ≡ front ++ rest) × (0 < length rest)
+    × Appends old new front

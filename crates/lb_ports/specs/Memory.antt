@@ -42,7 +42,11 @@ Refuses s bytes = Contains s.fails s.calls ⊎ ((s.room ≡ 0) × (0 < length by
 
 -- the sink after a write that took this many of the bytes
 abbrev pub sink_after_write : SinkState → List ℕ → ℕ → SinkState
-sink_after_write s bytes count = record s { held = s.held ++ take count bytes; room = s.room - count; calls = next_count s.calls }
+sink_after_write s bytes count = record s {
+  held = s.held ++ take count bytes;
+  room = s.room - count;
+  calls = next_count s.calls;
+}
 
 -- the sink after a write that failed
 abbrev pub sink_after_fault : SinkState → SinkState
