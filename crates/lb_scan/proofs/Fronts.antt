@@ -91,12 +91,12 @@ takes_number x n s b after v rest is room p a = takes x n s b after (Numeral v) 
 pub takes_word : (x : Symbol) (n : ℕ) (s : List ℕ) (b : ℕ) (after : List ℕ) (t : Token) (rest : List ℕ) → s ≡ b ∷ after → open_after n b ≤ most_brackets → ReadsWord x s t rest → Takes n x t s rest
 takes_word x n s b after t rest is room p = takes x n s b after t p.word rest is room p.parts p.spelled p.longest p.taken
 
-take_drop : (len : ℕ) (s : List ℕ) → s ≡ take len s ++ drop len s
+pub take_drop : (len : ℕ) (s : List ℕ) → s ≡ take len s ++ drop len s
 take_drop zero s = refl
 take_drop (suc n) [] = refl
 take_drop (suc n) (b ∷ s) = ap (λ (u : List ℕ). b ∷ u) (take_drop n s)
 
-taken_short : (x : Symbol) (w : List ℕ) (t : Token) → begins_with_digit 10 w ≡ false → IsTaken x w t → length w ≤ 32
+pub taken_short : (x : Symbol) (w : List ℕ) (t : Token) → begins_with_digit 10 w ≡ false → IsTaken x w t → length w ≤ 32
 taken_short x [] t d p = omega arith
 taken_short x (a ∷ u) t d p = begun_short x (a ∷ u) d (or_left _ _ (begins_front x a u [] t (ap lexeme (append-nil (a ∷ u)) ∙ p.spelled) p.taken))
 

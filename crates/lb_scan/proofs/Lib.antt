@@ -6,3 +6,4 @@ pub mod Stuck
 pub mod Numbers
 pub mod Marks
 pub mod Fronts
+pub mod Refused

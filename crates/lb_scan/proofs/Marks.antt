@@ -13,7 +13,7 @@ use Rattle.lb_syntax.specs.Names.{is_name, is_name_start}
 use Rattle.lb_spelling.specs.declared.symbol.Symbol.{Symbol}
 use Rattle.lb_spelling.specs.declared.fault.TextKind.{TextKind}
 use Rattle.lb_spelling.specs.declared.fault.TextKind.TheVariants as kinds
-use Rattle.lb_spelling.specs.Tokens.{Numeral, Named, lexeme, same, value, is_empty, is_hex, is_number, is_digit_of, is_word, is_word_byte, hex_mark, joins, begins_with, comment_start, IsLongest}
+use Rattle.lb_spelling.specs.Tokens.{Numeral, Named, lexeme, same, is_empty, is_hex, is_number, is_digit_of, is_word, is_word_byte, hex_mark, joins, begins_with, comment_start, IsLongest}
 use Rattle.lb_spelling.specs.InternalMachine.{Stack, Part, Go, Fail, ended, has_ended, Stuck, run, step, next, taken, begins, begins_one, begins_number, unexpected, kind_in}
 use Rattle.lb_spelling.proofs.Words.{false_from, same_is, same_itself, hex_more, number_hex, number_decimal, word_parts, name_parts, digit_word, is_based}
 use Rattle.lb_spelling.proofs.Lexing.{number_is, any_number}
@@ -51,13 +51,13 @@ mark_some (b ∷ c ∷ s) e =
 
 -- ---- the token
 
-based : (r : ℕ) (s before rest : List ℕ) → Digits r s before rest → is_based r before ≡ true
+pub based : (r : ℕ) (s before rest : List ℕ) → Digits r s before rest → is_based r before ≡ true
 based r s before rest p = and_from _ _ (and_from _ _ (full before p.some) p.all) (lt-ltb _ _ p.small) where
   full : (w : List ℕ) → 0 < length w → not (is_empty w) ≡ true
   full [] h = absurd (omega arith)
   full (b ∷ w) h = refl
 
-not_hex_front : (u v : List ℕ) → is_hex (u ++ v) ≡ false → is_hex u ≡ false
+pub not_hex_front : (u v : List ℕ) → is_hex (u ++ v) ≡ false → is_hex u ≡ false
 not_hex_front u v e = false_from _ (λ h. true≢false (sym (hex_more u v h) ∙ e))
 
 decimal_lexeme : (w : List ℕ) → is_hex w ≡ false → is_based 10 w ≡ true → lexeme w ≡ Some (Numeral (digits_value 10 w))
@@ -78,7 +78,7 @@ run_ends : (a : ℕ) (u rest : List ℕ) → is_digit a 10 ≡ true → EndsRun 
 run_ends a u [] d e = tt {0}
 run_ends a u (b ∷ rest) d e = run_over a u b d e
 
-digit_head : (s before rest : List ℕ) → Digits 10 s before rest → (a : ℕ) × (u : List ℕ) × (before ≡ a ∷ u) × (is_digit a 10 ≡ true)
+pub digit_head : (s before rest : List ℕ) → Digits 10 s before rest → (a : ℕ) × (u : List ℕ) × (before ≡ a ∷ u) × (is_digit a 10 ≡ true)
 digit_head s [] rest p = absurd (let h : 0 < length {A = ℕ} [] = p.some in omega arith)
 digit_head s (a ∷ u) rest p = (a, u, refl, (and_parts (is_digit a 10) (list_all (λ b. is_digit b 10) u) p.all).0)
 
@@ -117,7 +117,7 @@ unfolding begins_one
 not_begun x k a u d e = or_from _ _ (or_from _ _ (or_from _ _ (and_right (is_some (next x (Numeral 0))) _ e) (and_right (is_some (next x (Named []))) _ (no_word a u d))) (none_fixed (λ t. is_some (next x t)) a u d))
     (false_from _ (λ c. no_slash a d (begun_first a u comment_start c)))
 
-run_on : (a : ℕ) (u : List ℕ) (b : ℕ) → is_digit a 10 ≡ true → is_word_byte b ≡ true → joins (a ∷ u) b ≡ true
+pub run_on : (a : ℕ) (u : List ℕ) (b : ℕ) → is_digit a 10 ≡ true → is_word_byte b ≡ true → joins (a ∷ u) b ≡ true
 unfolding joins
 run_on a u b d w = or_left _ _ (or_left _ _ (and_from (is_word_byte a) (is_word_byte b) (digit_word a 10 (omega arith) d) w))
 
@@ -133,7 +133,7 @@ stuck_number : (a : ℕ) (v : List ℕ) (m b : ℕ) (more : List ℕ) (x : Symbo
 stuck_number a v m b more x t e d w g n k =
     word_runs v a [] (b ∷ more) most_brackets n x k (Numeral m) e (any_number x m ∙ t) ∙ run_fail most_brackets b more (Part (a ∷ v)) n (x ∷ k) (kind_in (a ∷ v) b) (step_fails x k n a v b d w g)
 
-based_fails : (r : ℕ) (before : List ℕ) (b : ℕ) {C : Type 0} {D : Type 0} → ((is_digit b r ≡ false) × C) ⊎ ((is_digit b r ≡ true) × (2 ^ 32 ≤ digits_value r (before ++ b ∷ [])) × D) → is_based r (before ++ b ∷ []) ≡ false
+pub based_fails : (r : ℕ) (before : List ℕ) (b : ℕ) {C : Type 0} {D : Type 0} → ((is_digit b r ≡ false) × C) ⊎ ((is_digit b r ≡ true) × (2 ^ 32 ≤ digits_value r (before ++ b ∷ [])) × D) → is_based r (before ++ b ∷ []) ≡ false
 based_fails r before b (inl p) = and_left _ _ (and_right (not (is_empty (before ++ b ∷ []))) _ (list_all-append (λ b. is_digit b r) before (b ∷ []) ∙ and_right _ _ (and_left _ true p.0)))
 based_fails r before b (inr p) = and_right _ _ (le-ltb _ _ p.1)
 

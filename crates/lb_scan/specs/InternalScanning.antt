@@ -103,6 +103,10 @@ pub record ReadsNumber (s : Text) (value : ℕ) (rest : Text) : Type 0 where
   pub spelled : lexeme word ≡ Some (Numeral value)
   pub longest : IsLongest word rest
 
+-- no number stands at the front of s
+abbrev pub ReadsNoNumber : Text → Type 0
+ReadsNoNumber s = (value : ℕ) (rest : Text) → ¬ (ReadsNumber s value rest)
+
 -- wherever a number is expected
 abbrev pub NumberFault : Text → SyntaxError → Type 0
 NumberFault s error = (x : Symbol) → is_some (next x (Numeral 0)) ≡ true → IsStuckIn x s error
@@ -133,6 +137,10 @@ pub record ReadsWord (x : Symbol) (s : Text) (t : Token) (rest : Text) : Type 0 
   pub spelled : lexeme word ≡ Some t
   pub longest : IsLongest word rest
   pub taken : is_some (next x t) ≡ true
+
+-- no token that x takes stands at the front of s
+abbrev pub ReadsNoWord : Symbol → Text → Type 0
+ReadsNoWord x s = (t : Token) (rest : Text) → ¬ (ReadsWord x s t rest)
 
 -- x takes names, and these bytes begin one
 abbrev pub begins_name : Symbol → Text → Bool

@@ -1,6 +1,6 @@
 // Numbers.
 ghost use Rattle.std.specs.Prelude.{◌≡◌, ◌≤◌, ◌+◌, ◌*◌, true, IfOk, IfErr};
-ghost use Rattle.lb_scan.specs.InternalScanning.{begins_with_digit, ReadsDigits, DigitsFault, HexadecimalFault, IsBehindMark, IsWordOrNone, ReadsNumber, NumberFault};
+ghost use Rattle.lb_scan.specs.InternalScanning.{begins_with_digit, ReadsDigits, DigitsFault, HexadecimalFault, IsBehindMark, IsWordOrNone, ReadsNumber, ReadsNoNumber, NumberFault};
 
 use crate::bytes::{is_word_byte, unexpected};
 use crate::gap::first;
@@ -12,6 +12,7 @@ pub fn number(bytes: &[u8]) -> Result<(u32, &[u8]), SyntaxError>
     requires { begins_with_digit 10 bytes.now ≡ true }
     ensures found { IfOk result (λ r. ReadsNumber bytes.now r.0 r.1.now) }
     ensures fault { IfErr result (λ error. NumberFault bytes.now error) }
+    ensures refused { IfErr result (λ _. ReadsNoNumber bytes.now) }
 {
     match behind_mark(bytes) {
         None => digits(10, bytes),

@@ -4,8 +4,8 @@ ghost use Rattle.lb_spelling.specs.InternalMachine.{Stack, ends, begins};
 ghost use Rattle.lb_spelling.specs.InternalParsing.{Takes, Faults};
 ghost use Rattle.lb_syntax.specs.Brackets.{most_brackets, open_after};
 ghost use Rattle.lb_scan.specs.Tokens.{token_of};
-ghost use Rattle.lb_scan.specs.Scanned.{TakesOrEnds};
-ghost use Rattle.lb_scan.specs.InternalScanning.{BeginsToken, begins_with_digit, IsStuckIn, IsTokenFor, ReadsWord};
+ghost use Rattle.lb_scan.specs.Scanned.{TakesOrEnds, TakesNone, IsMoreLeft};
+ghost use Rattle.lb_scan.specs.InternalScanning.{BeginsToken, begins_with_digit, IsStuckIn, IsTokenFor, ReadsWord, ReadsNoWord};
 
 use crate::bytes::{is_digit, unexpected};
 use crate::gap::{first, skip};
@@ -25,6 +25,8 @@ pub fn scan(expected: Symbol, depth: u32, bytes: &[u8]) -> Result<(Token, &[u8])
     ensures found { IfOk result (λ r. Takes depth expected (token_of r.0) bytes.now r.1.now) }
     // The kind and the place of the fault, whatever has to come behind `expected`.
     ensures fault { IfErr result (λ error. Faults depth expected bytes.now error.kind error.left) }
+    // No such token stands there.
+    ensures refused { IfErr result (λ _. TakesNone depth expected bytes.now) }
 {
     match scan_or_end(expected, depth, bytes)? {
         Some(found) => Ok(found),
@@ -44,6 +46,8 @@ pub fn scan_or_end(
     requires { depth ≤ most_brackets }
     ensures found { IfOk result (λ o. TakesOrEnds depth expected bytes.now o) }
     ensures fault { IfErr result (λ error. Faults depth expected bytes.now error.kind error.left) }
+    ensures refused { IfErr result (λ _. TakesNone depth expected bytes.now) }
+    ensures more { IfErr result (λ _. IsMoreLeft bytes.now) }
 {
     let start = skip(bytes);
     if start.is_empty() {
@@ -80,6 +84,7 @@ fn word_or_sign(expected: Symbol, bytes: &[u8]) -> Result<(Token, &[u8]), Syntax
     requires begun { begins (expected ∷ []) (take 1 bytes.now) ≡ true }
     ensures found { IfOk result (λ r. ReadsWord expected bytes.now (token_of r.0) r.1.now) }
     ensures fault { IfErr result (λ error. IsStuckIn expected bytes.now error) }
+    ensures refused { IfErr result (λ _. ReadsNoWord expected bytes.now) }
 {
     let len = spelling_len(bytes);
     let (spelling, rest) = bytes.split_at(len);
@@ -109,6 +114,7 @@ fn scan_token(expected: Symbol, depth: u32, bytes: &[u8]) -> Result<(Token, &[u8
     requires token { BeginsToken bytes.now }
     ensures found { IfOk result (λ r. Takes depth expected (token_of r.0) bytes.now r.1.now) }
     ensures fault { IfErr result (λ error. Faults depth expected bytes.now error.kind error.left) }
+    ensures refused { IfErr result (λ _. TakesNone depth expected bytes.now) }
 {
     let Some((b, _)) = first(bytes) else {
         unreachable!()

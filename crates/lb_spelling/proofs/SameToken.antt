@@ -17,7 +17,7 @@ cons_same : (a b : ℕ) (s t : List ℕ) → a ∷ s ≡ b ∷ t → (a ≡ b) �
 cons_same a b s t e = (cc, cc)
 
 -- a gap that is no gap of the other
-gap_none : (b : ℕ) (g x : List ℕ) → gap false Outside (b ∷ g) ≡ true → BeginsToken (b ∷ g ++ x) → ⊥
+pub gap_none : (b : ℕ) (g x : List ℕ) → gap false Outside (b ∷ g) ≡ true → BeginsToken (b ∷ g ++ x) → ⊥
 gap_none b g x h t = elim (chosen (is_blank b) (gap false Outside g) (eqb b 47 && gap false Slash g) true h) [
   | inl c ↦ true≢false (sym c.0 ∙ not_blank g t)
   | inr c ↦ (let p = and_parts (eqb b 47) (gap false Slash g) c.1 in slash g t p.0 p.1)
@@ -33,7 +33,8 @@ gap_none b g x h t = elim (chosen (is_blank b) (gap false Outside g) (eqb b 47 &
   slash [] t p q = absurd (let e : false ≡ true = q in cc)
   slash (c ∷ g) t p q = let r = and_parts (eqb c 47) (gap false Comment g) q in true≢false (sym (and_from _ _ p r.0) ∙ t.1)
 
-gap_same : (g g' : List ℕ) (m : Mode) (x x' : List ℕ) → gap false m g ≡ true → gap false m g' ≡ true → BeginsToken x → BeginsToken x' → g ++ x ≡ g' ++ x' → x ≡ x'
+-- behind gaps in one text stands one thing
+pub gap_same : (g g' : List ℕ) (m : Mode) (x x' : List ℕ) → gap false m g ≡ true → gap false m g' ≡ true → BeginsToken x → BeginsToken x' → g ++ x ≡ g' ++ x' → x ≡ x'
 gap_same [] [] m x x' h h' t t' e = e
 gap_same [] (b ∷ g') Outside x x' h h' t t' e = absurd (gap_none b g' x' h' (subst (λ (u : List ℕ). BeginsToken u) e t))
 gap_same [] (b ∷ g') Slash x x' h h' t t' e = absurd cc
@@ -90,12 +91,12 @@ token_begins (b ∷ c ∷ v) r t e longest = (
 )
 
 -- one of two fronts is the longer
-data Fronts (a b x y : List ℕ) : Type 0 where
+pub data Fronts (a b x y : List ℕ) : Type 0 where
   equal : a ≡ b → x ≡ y → Fronts a b x y
   second : (c : ℕ) (v : List ℕ) → b ≡ a ++ c ∷ v → x ≡ c ∷ v ++ y → Fronts a b x y
   first : (c : ℕ) (v : List ℕ) → a ≡ b ++ c ∷ v → y ≡ c ∷ v ++ x → Fronts a b x y
 
-fronts : (a b x y : List ℕ) → a ++ x ≡ b ++ y → Fronts a b x y
+pub fronts : (a b x y : List ℕ) → a ++ x ≡ b ++ y → Fronts a b x y
 fronts [] [] x y e = equal refl e
 fronts [] (c ∷ b) x y e = second c b refl e
 fronts (c ∷ a) [] x y e = first c a refl (sym e)
@@ -122,27 +123,27 @@ stands_same t t' s r r' p q =
 pub other_token : (t t' : Token) (s r r' : List ℕ) → (t ≡ t' → ⊥) → Stands t s r → Stands t' s r' → ⊥
 other_token t t' s r r' apart p q = apart (stands_same t t' s r r' p q).0
 
+-- what begins a token is no gap that ends the text
+pub gap_word : (s : List ℕ) → BeginsToken s → 0 < length s → gap true Outside s ≡ true → ⊥
+gap_word [] t l e = omega arith
+gap_word (b ∷ s) t l e = elim (chosen (is_blank b) (gap true Outside s) (eqb b 47 && gap true Slash s) true e) [
+  | inl c ↦ true≢false (sym c.0 ∙ blank s t)
+  | inr c ↦ (let p = and_parts (eqb b 47) (gap true Slash s) c.1 in slash s t p.0 p.1)
+] where
+  slash : (s : List ℕ) → BeginsToken (b ∷ s) → eqb b 47 ≡ true → gap true Slash s ≡ true → ⊥
+  slash [] t h e = absurd (let f : false ≡ true = e in cc)
+  slash (c ∷ s) t h e = true≢false (sym (and_from _ _ h (and_parts (eqb c 47) (gap true Comment s) e).0) ∙ t.1)
+
+  blank : (s : List ℕ) → BeginsToken (b ∷ s) → is_blank b ≡ false
+  blank [] t = t
+  blank (c ∷ s) t = t.0
+
 -- no token stands where the text ends
 pub no_token : (t : Token) (s r : List ℕ) → gap true Outside s ≡ true → Stands t s r → ⊥
 no_token t s r g p = gap_word (p.word ++ r) (token_begins p.word r t p.spelled p.longest) (some p.word p.spelled) (sym (gap-append p.before Outside true (p.word ++ r) p.is_gap) ∙ (ap (λ (u : List ℕ). gap true Outside u) (sym p.parts) ∙ g)) where
   some : (w : List ℕ) → lexeme w ≡ Some t → 0 < length (w ++ r)
   some [] e = absurd (empty_lexeme t e)
   some (b ∷ w) e = omega arith
-
-  slash : (b : ℕ) (s : List ℕ) → BeginsToken (b ∷ s) → eqb b 47 ≡ true → gap true Slash s ≡ true → ⊥
-  slash b [] t h e = absurd (let f : false ≡ true = e in cc)
-  slash b (c ∷ s) t h e = true≢false (sym (and_from _ _ h (and_parts (eqb c 47) (gap true Comment s) e).0) ∙ t.1)
-
-  blank : (b : ℕ) (s : List ℕ) → BeginsToken (b ∷ s) → is_blank b ≡ false
-  blank b [] t = t
-  blank b (c ∷ s) t = t.0
-
-  gap_word : (s : List ℕ) → BeginsToken s → 0 < length s → gap true Outside s ≡ true → ⊥
-  gap_word [] t l e = omega arith
-  gap_word (b ∷ s) t l e = elim (chosen (is_blank b) (gap true Outside s) (eqb b 47 && gap true Slash s) true e) [
-    | inl c ↦ true≢false (sym c.0 ∙ blank b s t)
-    | inr c ↦ (let p = and_parts (eqb b 47) (gap true Slash s) c.1 in slash b s t p.0 p.1)
-  ]
 
 -- a name that stands in a text is one
 pub stands_name : (x : Text) (s r : List ℕ) → Stands (Named x) s r → IsName x

@@ -7,6 +7,7 @@ use Rattle.lb_spelling.specs.Tokens.{Numeral}
 use Rattle.lb_spelling.proofs.Lexing.{any_number}
 use Rattle.lb_scan.specs.Tokens.{token_of}
 use Rattle.lb_scan.proofs.Fronts.{Begins, digit_begins, stuck_token, takes_number, takes_word}
+use Rattle.lb_scan.proofs.Refused.{wrong_refused, deep_refused, number_refused, word_refused}
 use Rattle.lb_scan.proofs.scanner.scan_token.Goals as goal
 
 pub returns-in_err-value-clause-fault : goal.returns-in_err-value-clause-fault
@@ -34,3 +35,17 @@ returns-else-is_digit-clause-fault c =
     let begun : Begins c.args.expected c.in-Some.b true = sym c.may_begin.ensures ∙ c.if-not-may_begin.false in
     let room : open_after c.args.depth c.in-Some.b ≤ most_brackets = search rules in
     IfErr-weaker c.word_or_sign.result _ _ (λ error p. stuck_token c.args.expected c.args.depth c.args.bytes.now c.in-Some.b c.in-Some.field-0-1.now error c.in-Some.ensures c.requires.token begun room p) c.word_or_sign.ensures.fault
+
+pub returns-then-not-may_begin-clause-refused : goal.returns-then-not-may_begin-clause-refused
+returns-then-not-may_begin-clause-refused c = wrong_refused c.args.expected c.args.depth c.args.bytes.now c.in-Some.b c.in-Some.field-0-1.now c.in-Some.ensures c.requires.token (sym c.may_begin.ensures ∙ c.if-not-may_begin.true)
+
+pub returns-then-not-has_room-clause-refused : goal.returns-then-not-has_room-clause-refused
+returns-then-not-has_room-clause-refused c = deep_refused c.args.expected c.args.depth c.args.bytes.now c.in-Some.b c.in-Some.field-0-1.now c.in-Some.ensures c.requires.token (search rules)
+
+pub returns-in_err-value-clause-refused : goal.returns-in_err-value-clause-refused
+returns-in_err-value-clause-refused c =
+    let p = err_from_is_err_and c.from_residual.result c.from_residual.ensures.1 in
+    rw (p.1) (number_refused c.args.expected c.args.depth c.args.bytes.now c.in-Some.b c.in-Some.field-0-1.now c.in-Some.ensures c.requires.token (sym c.is_digit.ensures ∙ c.if-is_digit.true) c.in_err-value.ensures.refused)
+
+pub returns-else-is_digit-clause-refused : goal.returns-else-is_digit-clause-refused
+returns-else-is_digit-clause-refused c = IfErr-weaker c.word_or_sign.result _ _ (λ error p. word_refused c.args.expected c.args.depth c.args.bytes.now c.requires.token p) c.word_or_sign.ensures.refused
