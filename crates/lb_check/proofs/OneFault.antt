@@ -1,5 +1,5 @@
 -- The fault for which a program is refused is the only one that it is refused for.
-use Rattle.std.proofs.Common.{◌≡◌, ℕ, inl, inr, List, [], ◌∷◌, ◌++◌, sym, ap, ◌∙◌, subst, arith, All}
+use Rattle.std.proofs.Common.{◌≡◌, inl, inr, List, [], ◌∷◌, ◌++◌, sym, ap, ◌∙◌, subst, arith, All}
 use Rattle.std.proofs.lemmas.List.Elements.{All-head, All-tail}
 use Rattle.lb_syntax.specs.Tree.{Procedure}
 use Rattle.lb_syntax.specs.Calls.{IsRecursive}
@@ -7,7 +7,7 @@ use Rattle.lb_syntax.proofs.StackLemmas.{one_stack_need}
 use Rattle.lb_check.specs.declared.fault.CheckFault.{CheckFault}
 use Rattle.lb_check.specs.declared.fault.CheckFault.TheVariants.{Recursion, StackNeed}
 use Rattle.lb_check.specs.Faults.{faults}
-use Rattle.lb_check.specs.Verdict.{Question, Keeps, NoRecursion, FitsStack, IsKept, IsFirst, IsFirstRecursive, IsBroken, IsFirstBroken, questions}
+use Rattle.lb_check.specs.Verdict.{Question, Keeps, NoRecursion, FitsStack, IsKept, IsFirst, IsBroken, IsFirstBroken, questions}
 use Rattle.lb_check.specs.Laws.{OneFault}
 
 one_first : (fs : List CheckFault) (f g : CheckFault) → IsFirst fs f → IsFirst fs g → f ≡ g

@@ -34,7 +34,8 @@ none_broken p [] fault h k = h
 none_broken p (q ∷ qs) fault (inl h) k = not_both p q fault h k.0
 none_broken p (q ∷ qs) fault (inr h) k = none_broken p qs fault h.1 k.1
 
-refusal : (p : List Procedure) (fault : CheckFault) → IsFirstFault p fault → IsRefusal p (Fault fault)
+-- a first fault, of a program that doesn't keep the rules
+pub refusal : (p : List Procedure) (fault : CheckFault) → IsFirstFault p fault → IsRefusal p (Fault fault)
 refusal p fault h = (h, λ r. none_broken p questions fault h (kept_rules p r))
 
 module _ (p : List Procedure) where

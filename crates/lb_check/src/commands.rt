@@ -11,7 +11,7 @@ use crate::fault::{CheckError, CheckFault};
 use crate::lookup::{has_function, has_misfit};
 use crate::names::first_repeated;
 use crate::rule::{CommandRule, Rule};
-use lb_syntax::{Action, Block, Cmd, Expr, Function, Name};
+use lb_syntax::{Action, Block, Cmd, Function, Name};
 use std::alloc::Global;
 
 /// Whether every command of these functions keeps the rule.

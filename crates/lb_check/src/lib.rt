@@ -19,5 +19,5 @@ pub use checked::{Checked, Needs};
 pub use checker::check;
 pub use counts::depth_of_block;
 pub use fault::{CheckError, CheckFault};
-pub use laws::one_fault;
+pub use laws::{not_both, one_fault};
 pub use names::variable_names;
