@@ -9,4 +9,3 @@ pub mod Layouts
 pub mod Printing
 pub mod Brackets
 pub mod Parts
-pub mod InternalNesting
