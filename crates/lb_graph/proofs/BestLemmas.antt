@@ -8,9 +8,16 @@ use Rattle.std.proofs.lemmas.List.{get_or_append_left}
 use Rattle.std.proofs.Math.ListN.{get_or-eq_default}
 use Rattle.std.proofs.Math.Seq.{get_or-append_seam}
 use Rattle.lb_graph.specs.Paths.{successors, IsPath, IsAcyclic, path_weight, IsGreatestWeight}
-use Rattle.lb_graph.specs.InternalBest.{IsGreatestAmong, IsGreatest, IsStep, IsBestUpTo, IsBest}
+use Rattle.lb_graph.specs.InternalBest.{IsGreatestAmong, IsGreatest, IsStep, IsBest}
 use Rattle.lb_graph.proofs.PathLemmas.{path-le-nodes}
 use Rattle.lb_graph.proofs.SearchLemmas.{one_in}
+
+-- at each node the weight of a path from there, and none of at most k edges has more
+pub record IsBestUpTo (g : List (List ℕ)) (weights : List ℕ) (k : ℕ) (best : List ℕ) : Type 0 where
+  pub as_long : length best ≡ length g
+  pub reached : (v : ℕ) → v < length g → (path : List ℕ) × IsPath g (v ∷ path) × (path_weight weights (v ∷ path) ≡ slice_index best v)
+  pub greatest : (v : ℕ) (path : List ℕ) → IsPath g (v ∷ path) → length path ≤ k → path_weight weights (v ∷ path) ≤ slice_index best v
+  pub small : (v : ℕ) → slice_index best v < (k + 1) * 2 ^ 32
 
 -- a path's weight is its first node's and that of the rest
 weight-cons : (weights : List ℕ) (v : ℕ) (path : List ℕ) → path_weight weights (v ∷ path) ≡ slice_index weights v + path_weight weights path

@@ -10,7 +10,7 @@ use Rattle.std.proofs.lemmas.Grind.{get_or_default_zero}
 use Rattle.std.proofs.Math.ListN.{get_or-eq_default}
 use Rattle.std.proofs.Math.Seq.{get_or-append_seam}
 use Rattle.lb_graph.specs.Paths.{successors, LeadsTo}
-use Rattle.lb_graph.specs.InternalSearch.{IsMarked, IsOrderOf, Adds, IsSearch}
+use Rattle.lb_graph.specs.InternalSearch.{IsMarked, IsOrderOf, Adds}
 use Rattle.lb_graph.proofs.PathLemmas.{edge_leads, then_edge, closed_holds}
 
 none_in : (v : ℕ) → Contains [] v → ⊥
@@ -133,6 +133,15 @@ adds_more calls x m m1 m2 o o1 o2 a b = record {
     | inr k ↦ inr (Contains-append_right calls (x ∷ []) v k)
   ];
 }
+
+-- the search from start has marked what it led to, and those that the first nodes of its order lead to
+pub record IsSearch (g : List (List ℕ)) (start done : ℕ) (marks : List Bool) (order : List ℕ) : Type 0 where
+  pub as_long : length marks ≡ length g
+  pub is_order : IsOrderOf marks order
+  pub few_done : done ≤ length order
+  pub sound : (v : ℕ) → IsMarked marks v → LeadsTo g start v
+  pub begun : (v : ℕ) → Contains (successors g start) v → v < length g → IsMarked marks v
+  pub followed : (k : ℕ) → k < done → (v : ℕ) → Contains (successors g (slice_index order k)) v → v < length g → IsMarked marks v
 
 -- the search begins with what start leads to
 pub search_begins : (g : List (List ℕ)) (start : ℕ) (m m1 : List Bool) (o o1 : List ℕ) → length m ≡ length g → start < length g

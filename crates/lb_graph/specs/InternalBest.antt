@@ -1,5 +1,5 @@
 -- The greatest weights of the paths that begin at each node. Only contracts of private functions cite it.
-use Rattle.std.specs.Prelude.{◌≡◌, ℕ, ◌+◌, ◌*◌, ◌^◌, ◌<◌, ◌≤◌, ◌⊎◌, List, ◌∷◌, length, slice_index, Contains}
+use Rattle.std.specs.Prelude.{◌≡◌, ℕ, ◌+◌, ◌<◌, ◌≤◌, ◌⊎◌, List, ◌∷◌, length, slice_index, Contains}
 use Rattle.lb_graph.specs.Paths.{successors, IsPath, path_weight}
 
 -- the greatest of what the list best has at these places, 0 where they are none
@@ -20,13 +20,6 @@ pub record IsStep (g : List (List ℕ)) (weights best : List ℕ) (nodes : ℕ) 
 -- the same for all nodes of the graph
 abbrev pub IsWholeStep : List (List ℕ) → List ℕ → List ℕ → List ℕ → Type 0
 IsWholeStep g weights best next = IsStep g weights best (length g) next
-
--- at each node the weight of a path from there, and none of at most k edges has more
-pub record IsBestUpTo (g : List (List ℕ)) (weights : List ℕ) (k : ℕ) (best : List ℕ) : Type 0 where
-  pub as_long : length best ≡ length g
-  pub reached : (v : ℕ) → v < length g → (path : List ℕ) × IsPath g (v ∷ path) × (path_weight weights (v ∷ path) ≡ slice_index best v)
-  pub greatest : (v : ℕ) (path : List ℕ) → IsPath g (v ∷ path) → length path ≤ k → path_weight weights (v ∷ path) ≤ slice_index best v
-  pub small : (v : ℕ) → slice_index best v < (k + 1) * 2 ^ 32
 
 -- at each node the greatest weight of a path from there
 pub record IsBest (g : List (List ℕ)) (weights best : List ℕ) : Type 0 where

@@ -1,6 +1,6 @@
 -- What a search marks, and the order in which it finds it. Only contracts of private functions cite it.
 use Rattle.std.specs.Prelude.{◌≡◌, ℕ, ◌<◌, ◌≤◌, ◌⊎◌, ◌↔◌, List, Bool, true, false, length, slice_index, slice_index_or, Contains, count_by}
-use Rattle.lb_graph.specs.Paths.{successors, LeadsTo}
+use Rattle.lb_graph.specs.Paths.{LeadsTo}
 use Rattle.lb_graph.specs.declared.cycle.Found.{Found}
 
 -- node v is marked; what isn't a node never is
@@ -30,12 +30,3 @@ pub record Adds (calls : List ℕ) (marks : List Bool) (order : List ℕ) (marks
 -- the search has then found these nodes too
 abbrev pub Finds : List ℕ → Found → Found → Type 0
 Finds calls before after = Adds calls before.marks.items before.order.items after.marks.items after.order.items
-
--- the search from start has marked what it led to, and those that the first nodes of its order lead to
-pub record IsSearch (g : List (List ℕ)) (start done : ℕ) (marks : List Bool) (order : List ℕ) : Type 0 where
-  pub as_long : length marks ≡ length g
-  pub is_order : IsOrderOf marks order
-  pub few_done : done ≤ length order
-  pub sound : (v : ℕ) → IsMarked marks v → LeadsTo g start v
-  pub begun : (v : ℕ) → Contains (successors g start) v → v < length g → IsMarked marks v
-  pub followed : (k : ℕ) → k < done → (v : ℕ) → Contains (successors g (slice_index order k)) v → v < length g → IsMarked marks v

@@ -5,5 +5,6 @@ use sqlite_items::Items;
 /// A number that isn't below `calls.len()` names no node, and no path leads there.
 #[derive(Drop)]
 pub struct Graph {
+    /// For each node, the nodes that it leads to.
     pub calls: Items<Items<u16>>,
 }

@@ -1,5 +1,5 @@
 use Rattle.std.proofs.Common.{length, ◌-◌}
-use Rattle.lb_graph.specs.InternalSearch.{IsSearch}
+use Rattle.lb_graph.proofs.SearchLemmas.{IsSearch}
 use Rattle.lb_graph.proofs.cycle.reached_from.Given as goal
 
 abbrev pub invariant-loop-at : goal.invariant-loop-at

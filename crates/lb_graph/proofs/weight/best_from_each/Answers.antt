@@ -1,8 +1,8 @@
 -- A round that changes nothing ends it, and so do as many rounds as there are nodes.
 use Rattle.std.proofs.Common.{◌≡◌, ℕ, List, length, subst, sym, ◌∙◌, arith}
 use Rattle.std.proofs.lemmas.Slice.Eq.{bytes_eq-Decides}
-use Rattle.lb_graph.specs.InternalBest.{IsStep, IsBestUpTo}
-use Rattle.lb_graph.proofs.BestLemmas.{best_goes, best_settles, best_ends}
+use Rattle.lb_graph.specs.InternalBest.{IsStep}
+use Rattle.lb_graph.proofs.BestLemmas.{IsBestUpTo, best_goes, best_settles, best_ends}
 use Rattle.lb_graph.proofs.weight.best_from_each.Goals as goal
 
 pub returns-then-eq : goal.returns-then-eq

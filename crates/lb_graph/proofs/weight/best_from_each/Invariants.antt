@@ -1,4 +1,4 @@
-use Rattle.lb_graph.specs.InternalBest.{IsBestUpTo}
+use Rattle.lb_graph.proofs.BestLemmas.{IsBestUpTo}
 use Rattle.lb_graph.proofs.weight.best_from_each.Given as goal
 
 abbrev pub invariant-loop-round : goal.invariant-loop-round
