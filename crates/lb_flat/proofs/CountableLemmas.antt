@@ -12,7 +12,7 @@ use Rattle.lb_syntax.specs.Rules.{KeepsRules}
 use Rattle.lb_syntax.proofs.SetLemmas.{distinct-size}
 use Rattle.lb_check.specs.Parts.{body_parts}
 use Rattle.lb_flat.specs.SourceCounts.{greatest_arguments}
-use Rattle.lb_flat.specs.Flatten.{AreNamesOf}
+use Rattle.lb_flat.specs.InternalFlatForms.{AreNamesOf}
 use Rattle.lb_flat.specs.InternalFlatten.{HasRoom, IsCountable}
 use Rattle.lb_flat.proofs.FlatForms.{by_elements}
 

@@ -12,7 +12,7 @@ use Rattle.lb_flat.specs.declared.places.Place.TheVariants.{Slot}
 use Rattle.lb_flat.specs.Cells.{Cells, no_cells, put, set_all}
 use Rattle.lb_flat.specs.Code.{Nothing}
 use Rattle.lb_flat.specs.Run.{World, Outcome, Goes, Caller, then_do, with_value, spend, values, run_with, Callable, enter, calls}
-use Rattle.lb_flat.specs.Flatten.{flat_code}
+use Rattle.lb_flat.specs.InternalFlatForms.{flat_code}
 use Rattle.lb_flat.proofs.SourceFollow.{world_of, FollowsSource, both_go, both_stop, owes_nothing}
 use Rattle.lb_flat.proofs.FlatTerms.{AreNumbered, Holds, first_is, values_length}
 use Rattle.lb_flat.proofs.FlatCommands.{Arities, Suits, IsNumbering, CallsAlike, set_holds, body_follows}

@@ -24,7 +24,7 @@ use Rattle.lb_flat.specs.Cells.{Cells, put, set_all}
 use Rattle.lb_flat.specs.Code as code
 use Rattle.lb_flat.specs.Code.{Code, Plain, Branch, Sequence, Nothing, Store, Call, Access, sites}
 use Rattle.lb_flat.specs.Run.{World, Outcome, Goes, Stops, Caller, then_do, with_value, at_zero, spend, ask, unless, effect, values, turns, run_with}
-use Rattle.lb_flat.specs.Flatten.{holder, holders, term_code, flat_code}
+use Rattle.lb_flat.specs.InternalFlatForms.{holder, holders, term_code, flat_code}
 use Rattle.lb_flat.proofs.BooleanLemmas.{by_test}
 use Rattle.lb_flat.proofs.PutLemmas.{put_same, put_other, slots_differ}
 use Rattle.lb_flat.proofs.FlatTerms.{AreNumbered, Holds, all_left, all_right, values_length, holder_below, term_follows, terms_follow}

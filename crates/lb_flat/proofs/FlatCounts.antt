@@ -12,20 +12,22 @@ use Rattle.lb_syntax.specs.Tree.{Command, Skips, Sets, Unsets, Stores, Allocates
 use Rattle.lb_syntax.specs.Needs as source
 use Rattle.lb_syntax.specs.Needs.{nodes, terms_words}
 use Rattle.lb_syntax.specs.Calls.{CallSite, AccessSite, call_sites, access_sites}
-use Rattle.lb_syntax.specs.Rules.{IsGoodCall, IsGoodAccess, HasShape, Fits, KeepsFunctionRules, function_names}
+use Rattle.lb_syntax.specs.Rules.{IsGoodCall, IsGoodAccess, HasShape, Fits, KeepsFunctionRules, KeepsRules, function_names}
 use Rattle.lb_syntax.specs.declared.tree.Action.{Action}
 use Rattle.lb_syntax.specs.declared.tree.Action.TheVariants.{Read, Write}
 use Rattle.lb_syntax.specs.declared.limits.TheConstants.{NEAR_FRAME}
 use Rattle.lb_syntax.proofs.SetLemmas.{distinct-size}
-use Rattle.lb_flat.specs.Code.{Code, Plain, Branch, Nothing, Sequence, Compute, Load, Store, Call, Access, Routine, sites}
+use Rattle.lb_syntax.proofs.DistinctLemmas.{bytes_eq-same}
+use Rattle.lb_flat.specs.Code.{Code, Plain, Branch, Nothing, Sequence, Compute, Load, Store, Call, Access, Routine, Executable, sites}
 use Rattle.lb_flat.specs.Counts.{loads, stores, accesses, arguments, targets}
 use Rattle.lb_flat.specs.Needs.{frame_need, flat_words}
 use Rattle.lb_flat.specs.SourceCounts.{term_loads, source_loads, source_stores, source_accesses, source_arguments, source_targets, greatest_arguments}
-use Rattle.lb_flat.specs.Flatten.{holder, holders, term_code, terms_code, place_in, flat_code, flat_procedure, IsFlatForm, AreFlatForms}
-use Rattle.lb_flat.specs.Laws.{AsksNoMore, AllAskNoMore, FlattenedAsksNoMore}
+use Rattle.lb_flat.specs.Flattened.{place_in}
+use Rattle.lb_flat.specs.InternalFlatForms.{holder, holders, term_code, terms_code, flat_code, flat_procedure, IsFlatForm, AreFlatForms, IsFlattened}
+use Rattle.lb_flat.specs.Laws.{AsksNoMore, AllAskNoMore}
 use Rattle.lb_flat.proofs.FlatTerms.{all_left, all_right}
 use Rattle.lb_flat.proofs.FlatSites.{block_sites}
-use Rattle.lb_flat.proofs.FlatForms.{by_elements, weaken, same_text, later, none_there}
+use Rattle.lb_flat.proofs.FlatForms.{by_elements, weaken, later, none_there}
 
 -- ---- expressions
 
@@ -222,7 +224,7 @@ call_arguments [] site c h = absurd (none_there site.function c)
 call_arguments (f ∷ fs) site c h = at (λ there. call_arguments fs site there h.1) (bytes_eq f.name site.function) refl
   where
     at : (Contains (map (λ f. f.name) fs) site.function → length site.arguments ≤ 8) → (b : Bool) → bytes_eq f.name site.function ≡ b → length site.arguments ≤ 8
-    at next true e = omega (arith, (h.0.0 (same_text f.name site.function e)).0, h.0.1)
+    at next true e = omega (arith, (h.0.0 (bytes_eq-same f.name site.function e)).0, h.0.1)
     at next false e = next (later site.function f.name (map (λ f. f.name) fs) e c)
 
 both_hold : {X : Type 0} (P Q : X → Type 0) (xs : List X) → AllByRecursion P xs → AllByRecursion Q xs → AllByRecursion (λ x. P x × Q x) xs
@@ -306,7 +308,7 @@ asks_each functions [] (g ∷ gs) few forms = absurd forms
 asks_each functions (f ∷ fs) [] few forms = absurd forms
 asks_each functions (f ∷ fs) (g ∷ gs) few forms = (procedure_asks functions f g few.0 forms.0, asks_each functions fs gs few.1 forms.1)
 
-pub flattened_asks_no_more : FlattenedAsksNoMore
+pub flattened_asks_no_more : (p : List Procedure) (q : Executable ℕ) → KeepsRules p → IsFlattened p q → AllAskNoMore p q.routines
 flattened_asks_no_more p q keeps form =
     let each = by_elements (KeepsFunctionRules p) p keeps.functions in
     let few_params = weaken (KeepsFunctionRules p) (λ f. length f.params ≤ 8) p (λ f k. k.few_params) each in

@@ -12,7 +12,8 @@ use Rattle.lb_flat.specs.Code.{Code, Plain, Reserve, Branch, Loop, Nothing, Sequ
 use Rattle.lb_flat.specs.Code as code
 use Rattle.lb_flat.specs.Needs.{frame_need, flat_routine_words}
 use Rattle.lb_flat.specs.SourceCounts.{source_memory_words}
-use Rattle.lb_flat.specs.Flatten.{place_in, flat_code, flat_procedure}
+use Rattle.lb_flat.specs.Flattened.{place_in}
+use Rattle.lb_flat.specs.InternalFlatForms.{flat_code, flat_procedure}
 
 -- three variables, which have the numbers 0, 1 and 2
 abbrev a : Text

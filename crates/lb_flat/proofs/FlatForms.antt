@@ -9,20 +9,20 @@ use Rattle.lb_syntax.specs.Names.{Text, is_among}
 use Rattle.lb_syntax.specs.Tree.{Procedure}
 use Rattle.lb_syntax.specs.Needs.{command_names, procedure_names}
 use Rattle.lb_syntax.specs.Calls.{CallSite, call_sites, access_sites}
-use Rattle.lb_syntax.specs.Rules.{IsGoodCall, IsGoodAccess, Fits, KeepsFunctionRules, IsEntry, function_names}
+use Rattle.lb_syntax.specs.Rules.{IsGoodCall, IsGoodAccess, Fits, KeepsFunctionRules, IsEntry, KeepsRules, function_names}
 use Rattle.lb_syntax.specs.declared.layout.FrameLayout.{FrameLayout}
-use Rattle.lb_syntax.proofs.DistinctLemmas.{bytes_eq-refl}
+use Rattle.lb_syntax.proofs.DistinctLemmas.{bytes_eq-same, bytes_eq-refl}
 use Rattle.lb_source.specs.Defined.{IsDefined}
 use Rattle.lb_source.specs.declared.ends.SourceRun.{SourceRun}
 use Rattle.lb_source.specs.Run as source
 use Rattle.lb_source.specs.Run.{State}
 use Rattle.lb_source.specs.Source as source_whole
 use Rattle.lb_flat.specs.Cells.{Cells, no_cells}
-use Rattle.lb_flat.specs.Code.{Routine}
+use Rattle.lb_flat.specs.Code.{Routine, Executable}
 use Rattle.lb_flat.specs.Run.{World, Outcome, Goes, Stops, Callable, then_do, calls}
 use Rattle.lb_flat.specs.Whole.{callable, callables, own_slot, to_end, for_ever, whole, start}
-use Rattle.lb_flat.specs.Flatten.{place_in, AreNamesOf, IsFlatForm, AreFlatForms}
-use Rattle.lb_flat.specs.Laws.{FlattenedKeeps}
+use Rattle.lb_flat.specs.Flattened.{HasSameRuns, place_in}
+use Rattle.lb_flat.specs.InternalFlatForms.{AreNamesOf, IsFlatForm, AreFlatForms, IsFlattened}
 use Rattle.lb_flat.proofs.BooleanLemmas.{or_left, or_right}
 use Rattle.lb_flat.proofs.SourceFollow.{world_of, FollowsSource, both_go, both_stop, owes_nothing}
 use Rattle.lb_flat.proofs.FlatTerms.{AreNumbered, Holds, all_left, all_right}
@@ -40,9 +40,6 @@ weaken P Q [] k h = tt
 weaken P Q (x ∷ xs) k h = (k x h.0, weaken P Q xs k h.1)
 
 -- ---- names and their places
-
-pub same_text : (x y : Text) → bytes_eq x y ≡ true → x ≡ y
-same_text x y e = (bytes_eq-Decides x y).0 e
 
 -- each name is among its list
 among_itself : (xs : List Text) → AllByRecursion (λ x. is_among xs x ≡ true) xs
@@ -69,7 +66,7 @@ one_place (z ∷ zs) x y lx ly e = at (one_place zs x y) (bytes_eq z x) (bytes_e
     at : (place_in zs x < length zs → place_in zs y < length zs → place_in zs x ≡ place_in zs y → bytes_eq x y ≡ true)
         → (b c : Bool) → bytes_eq z x ≡ b → bytes_eq z y ≡ c → (if b then 0 else suc (place_in zs x)) < suc (length zs) → (if c then 0 else suc (place_in zs y)) < suc (length zs)
         → (if b then 0 else suc (place_in zs x)) ≡ (if c then 0 else suc (place_in zs y)) → bytes_eq x y ≡ true
-    at next true true ex ey lx ly e = (bytes_eq-Decides x y).1 (sym (same_text z x ex) ∙ same_text z y ey)
+    at next true true ex ey lx ly e = (bytes_eq-Decides x y).1 (sym (bytes_eq-same z x ex) ∙ bytes_eq-same z y ey)
     at next true false ex ey lx ly e = absurd (omega (arith, e))
     at next false true ex ey lx ly e = absurd (omega (arith, e))
     at next false false ex ey lx ly e = next (omega (arith, lx)) (omega (arith, ly)) (omega (arith, e))
@@ -104,7 +101,7 @@ has_arity (f ∷ fs) site c h = at (λ there. has_arity fs site there h.1) (byte
     at : (Contains (map (λ f. f.name) fs) site.function → HasArity (arities_of fs) site) → (b : Bool) → bytes_eq f.name site.function ≡ b
         → (length site.arguments ≡ (if b then length f.params else count_of (λ f. length f.params) fs site.function))
         × (length site.targets ≡ (if b then length f.results else count_of (λ f. length f.results) fs site.function))
-    at next true e = h.0 (same_text f.name site.function e)
+    at next true e = h.0 (bytes_eq-same f.name site.function e)
     at next false e = next (later site.function f.name (map (λ f. f.name) fs) e c)
 
 count_zero : (count : Procedure → ℕ) (fs : List Procedure) (x : Text) → AllByRecursion (λ f. f.name ≡ x → count f ≡ 0) fs → count_of count fs x ≡ 0
@@ -112,7 +109,7 @@ count_zero count [] x h = refl
 count_zero count (f ∷ fs) x h = at (count_zero count fs x h.1) (bytes_eq f.name x) refl
   where
     at : count_of count fs x ≡ 0 → (b : Bool) → bytes_eq f.name x ≡ b → (if b then count f else count_of count fs x) ≡ 0
-    at next true e = h.0 (same_text f.name x e)
+    at next true e = h.0 (bytes_eq-same f.name x e)
     at next false e = next
 
 -- ---- one function
@@ -201,8 +198,8 @@ no_results : (p : List Procedure) (x : Text) → ((f : Procedure) → f.name ≡
 no_results p x entry keeps =
     count_zero (λ f. length f.results) p x (weaken (KeepsFunctionRules p) (λ f. f.name ≡ x → length f.results ≡ 0) p (λ f k e. ap length (k.entry (entry f e)).1) keeps)
 
-pub flattened_keeps : FlattenedKeeps
-flattened_keeps p q layout fuel replies keeps form d =
+pub flattened_keeps : (p : List Procedure) (q : Executable ℕ) → KeepsRules p → IsFlattened p q → HasSameRuns p q
+flattened_keeps p q keeps form layout fuel replies d =
     let all = by_elements (KeepsFunctionRules p) p keeps.functions in
     let Found = found p p q.routines layout.frames in
     let same = whole_alike (arities_of p) (function p) (source_whole.callables p layout.frames) (callables q.routines own_slot layout.frames) (λ f. Found f all form.routines refl refl)

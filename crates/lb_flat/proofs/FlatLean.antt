@@ -5,10 +5,13 @@ use Rattle.std.proofs.lemmas.List.Elements.{All-from_recursion}
 use Rattle.std.proofs.lemmas.List.Sums.{sum_by-cons}
 use Rattle.lb_syntax.specs.Tree.{Procedure}
 use Rattle.lb_syntax.specs.Needs.{variables, greatest_depth}
-use Rattle.lb_flat.specs.Code.{Routine}
-use Rattle.lb_flat.specs.Needs.{memory_words, routine_memory_words}
-use Rattle.lb_flat.specs.SourceCounts.{greatest_arguments, source_memory_words}
-use Rattle.lb_flat.specs.Laws.{AllAskNoMore, FlattenedIsLean}
+use Rattle.lb_syntax.specs.Rules.{KeepsRules}
+use Rattle.lb_flat.specs.Code.{Routine, Executable}
+use Rattle.lb_flat.specs.Needs.{memory_words, routine_memory_words, flat_accesses_need}
+use Rattle.lb_flat.specs.SourceCounts.{greatest_arguments, source_memory_words, source_accesses_need, IsSmall}
+use Rattle.lb_flat.specs.Flattened.{HasFewVariables}
+use Rattle.lb_flat.specs.InternalFlatForms.{IsFlattened}
+use Rattle.lb_flat.specs.Laws.{AllAskNoMore}
 use Rattle.lb_flat.proofs.FlatForms.{by_elements}
 use Rattle.lb_flat.proofs.FlatCounts.{flattened_asks_no_more}
 
@@ -38,9 +41,10 @@ few_variables [] (g ∷ gs) small h = absurd h
 few_variables (f ∷ fs) [] small h = absurd h
 few_variables (f ∷ fs) (g ∷ gs) small h = (omega (arith, small.0, h.0.variables), few_variables fs gs small.1 h.1)
 
-pub flattened_is_lean : FlattenedIsLean
-flattened_is_lean = record {
-  accesses = λ p q keeps form. omega (arith, accesses_below p q.routines (flattened_asks_no_more p q keeps form));
-  variables = λ p q keeps form small. All-from_recursion (λ (g : Routine ℕ). g.variables ≤ 8) q.routines
-      (few_variables p q.routines (by_elements (λ f. variables f + greatest_depth f.body + greatest_arguments f.body ≤ 8) p small) (flattened_asks_no_more p q keeps form));
-}
+pub flattened_accesses : (p : List Procedure) (q : Executable ℕ) → KeepsRules p → IsFlattened p q → flat_accesses_need q.routines ≤ source_accesses_need p
+flattened_accesses p q keeps form = omega (arith, accesses_below p q.routines (flattened_asks_no_more p q keeps form))
+
+pub flattened_variables : (p : List Procedure) (q : Executable ℕ) → KeepsRules p → IsFlattened p q → IsSmall p → HasFewVariables q
+flattened_variables p q keeps form small =
+    All-from_recursion (λ (g : Routine ℕ). g.variables ≤ 8) q.routines
+    (few_variables p q.routines (by_elements (λ f. variables f + greatest_depth f.body + greatest_arguments f.body ≤ 8) p small) (flattened_asks_no_more p q keeps form))

@@ -14,7 +14,7 @@ use Rattle.lb_syntax.specs.Rules.{IsGoodAccess, HasShape}
 use Rattle.lb_flat.specs.Code.{Code, Plain, Branch, Nothing, Sequence, Compute, Load, Store, Call, Access, Routine}
 use Rattle.lb_flat.specs.Order.{EachName, IsVariable, HasShapes, Fits}
 use Rattle.lb_flat.specs.SourceCounts.{greatest_arguments}
-use Rattle.lb_flat.specs.Flatten.{holder, holders, term_code, terms_code, flat_code}
+use Rattle.lb_flat.specs.InternalFlatForms.{holder, holders, term_code, terms_code, flat_code}
 use Rattle.lb_flat.proofs.FlatTerms.{AreNumbered, all_left, all_right, holder_below}
 use Rattle.lb_flat.specs.Calls.{callees}
 use Rattle.lb_flat.proofs.FlatForms.{by_elements}

@@ -13,18 +13,20 @@ use Rattle.lb_syntax.specs.WellFormed.{IsProcedure}
 use Rattle.lb_syntax.specs.Needs as source
 use Rattle.lb_syntax.specs.Calls as source_calls
 use Rattle.lb_syntax.specs.Calls.{CallSite, call_sites, access_sites}
-use Rattle.lb_syntax.specs.Rules.{IsGoodCall, IsGoodAccess, IsBlockSize, Fits, IsEntry, KeepsFunctionRules, function_names}
+use Rattle.lb_syntax.specs.Rules.{IsGoodCall, IsGoodAccess, IsBlockSize, Fits, IsEntry, KeepsFunctionRules, KeepsRules, function_names}
 use Rattle.lb_syntax.specs.declared.limits.TheConstants.{MOST_FRAME}
-use Rattle.lb_flat.specs.Code.{Nothing, Routine, sites}
+use Rattle.lb_syntax.proofs.DistinctLemmas.{bytes_eq-same}
+use Rattle.lb_flat.specs.Code.{Nothing, Routine, Executable, sites}
 use Rattle.lb_flat.specs.Needs.{frame_need, flat_routine_words}
 use Rattle.lb_flat.specs.Calls.{callees, callees_of, frame_of, IsCallPath, IsRecursive, path_need}
 use Rattle.lb_flat.specs.Order as order
 use Rattle.lb_flat.specs.Order.{KeepsRoutineRules, KeepsExecutableRules, IsVariable, IsFlatInOrder}
 use Rattle.lb_flat.specs.SourceCounts.{greatest_arguments}
-use Rattle.lb_flat.specs.Flatten.{place_in, flat_procedure, IsFlatForm, AreFlatForms}
-use Rattle.lb_flat.specs.Laws.{AsksNoMore, AllAskNoMore, FlattenedInOrder}
+use Rattle.lb_flat.specs.Flattened.{place_in, AllCallPlaces, NamesByPlace}
+use Rattle.lb_flat.specs.InternalFlatForms.{flat_procedure, IsFlatForm, AreFlatForms, IsFlattened}
+use Rattle.lb_flat.specs.Laws.{AsksNoMore, AllAskNoMore}
 use Rattle.lb_flat.proofs.FlatTerms.{AreNumbered, all_left, all_right}
-use Rattle.lb_flat.proofs.FlatForms.{by_elements, weaken, same_text, later, none_there, procedure_below}
+use Rattle.lb_flat.proofs.FlatForms.{by_elements, weaken, later, none_there, procedure_below}
 use Rattle.lb_flat.proofs.FlatSites.{block_sites}
 use Rattle.lb_flat.proofs.FlatCounts.{flattened_asks_no_more}
 use Rattle.lb_flat.proofs.FlatNames.{numbers_named, command_named, terms_are, command_shaped, command_callees}
@@ -45,7 +47,7 @@ fits_there functions (f ∷ fs) (g ∷ gs) site forms c h = at (λ there. fits_t
 
     at : (Contains (map (λ f. f.name) fs) site.function → order.Fits (slice_get gs (place_in (map (λ f. f.name) fs) site.function)) (length site.arguments) (length site.targets))
         → (b : Bool) → bytes_eq f.name site.function ≡ b → order.Fits (slice_get (g ∷ gs) (if b then 0 else suc (place_in (map (λ f. f.name) fs) site.function))) (length site.arguments) (length site.targets)
-    at next true e = same forms.0.names forms.0.is (h.0 (same_text f.name site.function e))
+    at next true e = same forms.0.names forms.0.is (h.0 (bytes_eq-same f.name site.function e))
     at next false e = next (later site.function f.name (map (λ f. f.name) fs) e c)
 
 -- an entry has an entry's shape
@@ -61,7 +63,7 @@ entry_there functions (f ∷ fs) (g ∷ gs) x forms c h = at (λ there. entry_th
 
     at : (Contains (map (λ f. f.name) fs) x → order.IsEntry (slice_get gs (place_in (map (λ f. f.name) fs) x)))
         → (b : Bool) → bytes_eq f.name x ≡ b → order.IsEntry (slice_get (g ∷ gs) (if b then 0 else suc (place_in (map (λ f. f.name) fs) x)))
-    at next true e = same forms.0.names forms.0.is (h.0 (same_text f.name x e))
+    at next true e = same forms.0.names forms.0.is (h.0 (bytes_eq-same f.name x e))
     at next false e = next (later x f.name (map (λ f. f.name) fs) e c)
 
 -- ---- one function
@@ -155,8 +157,22 @@ name_at (f ∷ fs) x c = by_name (λ there. name_at fs x there) (bytes_eq f.name
   where
     by_name : (Contains (map (λ f. f.name) fs) x → (at fs (place_in (map (λ f. f.name) fs) x)).name ≡ x)
         → (b : Bool) → bytes_eq f.name x ≡ b → (at (f ∷ fs) (if b then 0 else suc (place_in (map (λ f. f.name) fs) x))).name ≡ x
-    by_name next true e = same_text f.name x e
+    by_name next true e = bytes_eq-same f.name x e
     by_name next false e = next (later x f.name (map (λ f. f.name) fs) e c)
+
+-- a flat form calls the places of the names that its procedure calls
+calls_places : (functions : List Text) (f : Procedure) (g : Routine ℕ) → IsFlatForm functions f g → callees g.body ≡ map (λ site. place_in functions site.function) (call_sites f.body)
+calls_places functions f g form =
+    ap (λ (r : Routine ℕ). callees r.body) form.is ∙ command_callees [] (place_in form.names) (place_in functions) (length form.names) f.body Nothing ∙ append-nil _
+
+all_call_places : (functions : List Text) (fs : List Procedure) (gs : List (Routine ℕ)) → AreFlatForms functions fs gs → AllCallPlaces functions fs gs
+all_call_places functions [] [] forms = tt
+all_call_places functions [] (g ∷ gs) forms = absurd forms
+all_call_places functions (f ∷ fs) [] forms = absurd forms
+all_call_places functions (f ∷ fs) (g ∷ gs) forms = (calls_places functions f g forms.0, all_call_places functions fs gs forms.1)
+
+pub flattened_names_by_place : (p : List Procedure) (q : Executable ℕ) → IsFlattened p q → NamesByPlace p q
+flattened_names_by_place p q form = record { init = form.init; again = form.again; calls = all_call_places (function_names p) p q.routines form.routines }
 
 -- a name that is called, by its number
 record Callee (functions : List Text) (sites : List CallSite) (h : ℕ) : Type 0 where
@@ -181,9 +197,7 @@ callees_there p (f ∷ fs) [] g h forms keeps c = absurd forms
 callees_there p (f ∷ fs) (r ∷ rs) (suc g) h forms keeps c = callees_there p fs rs g h forms.1 keeps.1 c
 callees_there p (f ∷ fs) (r ∷ rs) zero h forms keeps c =
     let functions = function_names p in
-    let names = forms.0.names in
-    let same : callees r.body ≡ map (λ site. place_in functions site.function) (call_sites f.body) =
-    ap (λ (q : Routine ℕ). callees q.body) forms.0.is ∙ command_callees [] (place_in names) (place_in functions) (length names) f.body Nothing ∙ append-nil _ in
+    let same = calls_places functions f r forms.0 in
     let known = weaken (IsGoodCall p) (λ site. Contains functions site.function) (call_sites f.body) (λ site good. good.known) (by_elements (IsGoodCall p) (call_sites f.body) keeps.0.good_calls) in
     let d = callee_is functions (call_sites f.body) h known (subst (λ (l : List ℕ). Contains l h) same c) in
     subst (λ (x : Text). Contains (source_calls.callees f) x) (sym (name_at p d.name d.known) ∙ ap (λ k. (at p k).name) d.is) d.called
@@ -232,7 +246,8 @@ module _ (p : List Procedure) (gs : List (Routine ℕ)) (forms : AreFlatForms (f
 entries : (p : List Procedure) (x : Text) → ((f : Procedure) → f.name ≡ x → IsEntry f) → AllByRecursion (KeepsFunctionRules p) p → AllByRecursion (λ f. f.name ≡ x → (f.params ≡ []) × (f.results ≡ [])) p
 entries p x entry keeps = weaken (KeepsFunctionRules p) (λ f. f.name ≡ x → (f.params ≡ []) × (f.results ≡ [])) p (λ f k e. k.entry (entry f e)) keeps
 
-pub flattened_in_order : FlattenedInOrder
+-- its literals are words, as those of every tree are
+pub flattened_in_order : (p : List Procedure) (q : Executable ℕ) → All IsProcedure p → KeepsRules p → IsFlattened p q → IsFlatInOrder q
 flattened_in_order p q trees keeps form = record {
   few_functions = omega (arith, as_many p q.routines asks, keeps.few_functions);
   init = subst (λ (i : ℕ). order.IsEntry (slice_get q.routines i)) (sym form.init)

@@ -5,7 +5,7 @@ use Rattle.lb_syntax.specs.Tree.{Term, Number, Variable, Loaded, Operation}
 use Rattle.lb_syntax.specs.Tree.{Command, Skips, Sets, Unsets, Stores, Allocates, Chooses, Repeats, Calls, Interacts, Ends, Then}
 use Rattle.lb_syntax.specs.Needs.{sites as source_sites}
 use Rattle.lb_flat.specs.Code.{Code, Nothing, sites}
-use Rattle.lb_flat.specs.Flatten.{term_code, terms_code, flat_code}
+use Rattle.lb_flat.specs.InternalFlatForms.{term_code, terms_code, flat_code}
 
 pub term_sites : (number : Text → ℕ) (e : Term) (target : Option ℕ) (t : ℕ) (rest : Code ℕ) → sites (term_code number e target t rest) ≡ sites rest
 term_sites number (Number n) target t rest = refl

@@ -17,7 +17,7 @@ use Rattle.lb_flat.specs.Cells.{Cells, put, set_all}
 use Rattle.lb_flat.specs.Code as code
 use Rattle.lb_flat.specs.Code.{Code, Plain, Sequence, Constant, Copy, Load, Compute}
 use Rattle.lb_flat.specs.Run.{World, Outcome, Goes, Caller, then_do, with_value, effect, values, run_with}
-use Rattle.lb_flat.specs.Flatten.{holder, holders, term_code, terms_code}
+use Rattle.lb_flat.specs.InternalFlatForms.{holder, holders, term_code, terms_code}
 use Rattle.lb_flat.proofs.PutLemmas.{put_same, put_other, slots_differ}
 use Rattle.lb_flat.proofs.SourceFollow.{world_of, FollowsSource}
 

@@ -8,7 +8,7 @@ use Rattle.std.specs.Cmp.Lexicographic.{slice_cmp}
 use Rattle.std.specs.Option.{option_map, unwrap_or, is_some}
 use Rattle.std.specs.Ordering.{nat_cmp}
 use Rattle.std.proofs.lemmas.Map.Text.{btree_map_updates_str}
-use Rattle.lb_flat.specs.Flatten.{place_in}
+use Rattle.lb_flat.specs.Flattened.{place_in}
 use Rattle.lb_flat.specs.InternalFlatten.{number_in, texts_of, AreTheirNumbers}
 use Rattle.std.proofs.lemmas.List.{take_more}
 use Rattle.std.specs.Str.{bytes_eq}

@@ -80,12 +80,3 @@ targets = total target_weight
 -- the moves from and to slots in placed code
 abbrev pub slot_moves : Code Place → ℕ
 slot_moves = total move_weight
-
--- the commands, those in blocks among them
-abbrev pub commands : {X : Type 0} → Code X → ℕ
-commands (Plain o xs ys) = 1
-commands (Reserve n y b) = 1 + commands b
-commands (Branch x b d) = 1 + (commands b + commands d)
-commands (Loop b x d) = 1 + (commands b + commands d)
-commands Nothing = 0
-commands (Sequence c d) = commands c + commands d

@@ -14,7 +14,8 @@ use Rattle.lb_flat.specs.declared.flat.FlatCmd.{FlatCmd}
 use Rattle.lb_flat.specs.Code.{Code, Sequence}
 use Rattle.lb_flat.specs.Flat.{flat_command}
 use Rattle.lb_flat.specs.SourceCounts.{greatest_arguments}
-use Rattle.lb_flat.specs.Flatten.{place_in, holder, holders, term_code, terms_code, flat_code}
+use Rattle.lb_flat.specs.Flattened.{place_in}
+use Rattle.lb_flat.specs.InternalFlatForms.{holder, holders, term_code, terms_code, flat_code}
 
 -- these commands, before the rest
 abbrev pub emitted : List FlatCmd → Code ℕ → Code ℕ

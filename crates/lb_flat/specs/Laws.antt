@@ -1,21 +1,16 @@
--- The laws of places and of flat forms.
-use Rattle.std.specs.Prelude.{◌≡◌, ◌↔◌, ℕ, ◌+◌, ◌*◌, ◌≤◌, List, [], ◌∷◌, length, All}
+-- The laws of places, and what flat forms ask for.
+use Rattle.std.specs.Prelude.{◌≡◌, ◌↔◌, ℕ, ◌+◌, ◌*◌, ◌≤◌, List, [], ◌∷◌, length}
 use Rattle.lb_syntax.specs.Tree.{Procedure}
 use Rattle.lb_syntax.specs.Needs as source
-use Rattle.lb_syntax.specs.WellFormed.{IsProcedure}
-use Rattle.lb_syntax.specs.Rules.{KeepsRules}
 use Rattle.lb_syntax.specs.declared.layout.Layout.{Layout}
 use Rattle.lb_source.specs.Defined.{IsDefined}
-use Rattle.lb_source.specs.Source.{src}
 use Rattle.lb_flat.specs.declared.places.Place.{Place}
 use Rattle.lb_flat.specs.Code.{Routine, Executable, sites}
 use Rattle.lb_flat.specs.Counts.{loads, stores, accesses, arguments, targets}
-use Rattle.lb_flat.specs.Needs.{frame_need, flat_routine_words, flat_accesses_need}
-use Rattle.lb_flat.specs.SourceCounts.{source_loads, source_stores, source_accesses, source_arguments, source_targets, greatest_arguments, source_accesses_need, IsSmall}
+use Rattle.lb_flat.specs.Needs.{frame_need, flat_routine_words}
+use Rattle.lb_flat.specs.SourceCounts.{source_loads, source_stores, source_accesses, source_arguments, source_targets, greatest_arguments}
 use Rattle.lb_flat.specs.Whole.{flat_run, located_run}
 use Rattle.lb_flat.specs.Accepted.{KeepsApart, AreAllAccepted}
-use Rattle.lb_flat.specs.Order.{IsFlatInOrder}
-use Rattle.lb_flat.specs.Flatten.{IsFlattened}
 use Rattle.lb_flat.specs.Liveness.{IsApartIn}
 
 -- with accepted places a program that does nothing undefined has the same trace and end
@@ -29,13 +24,6 @@ AcceptedPlacesKeep =
 -- on all walks or by recursion on the tree, the places of a function are apart or aren't
 abbrev pub LivenessIsByWalks : Type 0
 LivenessIsByWalks = (place : ℕ → Place) (f : Routine ℕ) → ((x : ℕ) → IsApartIn place f x) ↔ KeepsApart place f
-
--- the flat form of a program that keeps the rules has the same trace and end, if the program does nothing undefined
-abbrev pub FlattenedKeeps : Type 0
-FlattenedKeeps =
-    (p : List Procedure) (q : Executable ℕ) (layout : Layout) (fuel : ℕ) (replies : List ℕ) → KeepsRules p → IsFlattened p q
-    → IsDefined (src p layout fuel replies).end
-    → flat_run q layout fuel replies ≡ src p layout fuel replies
 
 -- a flat function asks for no more than the source's
 pub record AsksNoMore (f : Procedure) (g : Routine ℕ) : Type 0 where
@@ -56,16 +44,3 @@ abbrev pub AllAskNoMore : List Procedure → List (Routine ℕ) → Type 0
 AllAskNoMore [] [] = Unit {0}
 AllAskNoMore (f ∷ fs) (g ∷ gs) = AsksNoMore f g × AllAskNoMore fs gs
 AllAskNoMore _ _ = ⊥
-
--- the flat form of a program that keeps the rules asks for no more than the program, function by function
-abbrev pub FlattenedAsksNoMore : Type 0
-FlattenedAsksNoMore = (p : List Procedure) (q : Executable ℕ) → KeepsRules p → IsFlattened p q → AllAskNoMore p q.routines
-
--- and is in order, if its literals are words, as those of every tree are
-abbrev pub FlattenedInOrder : Type 0
-FlattenedInOrder = (p : List Procedure) (q : Executable ℕ) → All IsProcedure p → KeepsRules p → IsFlattened p q → IsFlatInOrder q
-
--- and may have no more loads and stores among its words; the flat functions of a small program have at most 8 variables
-pub record FlattenedIsLean : Type 0 where
-  pub accesses : (p : List Procedure) (q : Executable ℕ) → KeepsRules p → IsFlattened p q → flat_accesses_need q.routines ≤ source_accesses_need p
-  pub variables : (p : List Procedure) (q : Executable ℕ) → KeepsRules p → IsFlattened p q → IsSmall p → All (λ g. g.variables ≤ 8) q.routines

@@ -14,7 +14,7 @@ pub mod Calls
 pub mod Order
 pub mod Liveness
 pub mod SourceCounts
-pub mod Flatten
 pub mod Flattened
+pub mod InternalFlatForms
 pub mod InternalFlatten
 pub mod Laws

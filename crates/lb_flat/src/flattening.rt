@@ -12,8 +12,8 @@ ghost use Rattle.lb_syntax.specs.Needs as source;
 ghost use Rattle.lb_flat.specs.Needs.{code_need, flat_routine_words, flat_accesses_need};
 ghost use Rattle.lb_flat.specs.SourceCounts.{source_accesses_need, IsSmall};
 ghost use Rattle.lb_flat.specs.Order.{IsFlatInOrder};
-ghost use Rattle.lb_flat.specs.Flatten.{AreNamesOf, IsFlatForm, AreFlatForms, IsFlattened};
-ghost use Rattle.lb_flat.specs.Flattened.{HasSameRuns, HasFewVariables};
+ghost use Rattle.lb_flat.specs.InternalFlatForms.{AreNamesOf, IsFlatForm, AreFlatForms, IsFlattened};
+ghost use Rattle.lb_flat.specs.Flattened.{HasSameRuns, HasFewVariables, NamesByPlace};
 ghost use Rattle.lb_flat.specs.Laws.{AllAskNoMore};
 ghost use Rattle.lb_flat.specs.InternalFlatten.{HasRoom, IsCountable};
 
@@ -29,8 +29,9 @@ use std::alloc::{AllocError, Global};
 /// The flat form of a program. For every layout of the stack, every number of turns and all replies, it has the same trace and
 /// end as the program wherever that does nothing undefined. It is in order, and function by function it asks for no more than the
 /// program: it has as many functions, and each of them has as many parameters, results, stack blocks, loads, stores, accesses,
-/// arguments and targets as the source's, and no more words and bytes of a frame. So it asks for no more words in all. Fails only
-/// for want of memory.
+/// arguments and targets as the source's, and no more words and bytes of a frame. So it asks for no more words in all. Its functions
+/// have the numbers of their places in the text, counted from 0: by these it names `init` and `loop`, and calls what the source's
+/// functions call, in the same order. Fails only for want of memory.
 pub fn flatten(alloc: Global, program: &Checked) -> Result<FlatProgram, AllocError>
     ensures keeps { IfOk result (λ flat.
         HasSameRuns (program_of program.now) (flat_executable flat)) }
@@ -45,6 +46,8 @@ pub fn flatten(alloc: Global, program: &Checked) -> Result<FlatProgram, AllocErr
         ≤ source_accesses_need (program_of program.now)) }
     ensures variables { IfOk result (λ flat.
         IsSmall (program_of program.now) → HasFewVariables (flat_executable flat)) }
+    ensures functions { IfOk result (λ flat.
+        NamesByPlace (program_of program.now) (flat_executable flat)) }
 {
     let flat = flatten_program(alloc, program.program())?;
     Ok(flat)
@@ -76,7 +79,8 @@ fn flatten_functions(
     ensures forms { IfOk result (λ made.
         AreFlatForms (function_names (map procedure_of functions.now))
         (map procedure_of functions.now) (map flat_routine made)) }
-    ensures well_formed { OnOk result (AllByRecursion IsProcedure (map procedure_of functions.now)) }
+    ensures well_formed { OnOk result
+        (AllByRecursion IsProcedure (map procedure_of functions.now)) }
 {
     let mut made = Items::new(alloc);
     for f in functions {

@@ -14,10 +14,7 @@ mod scope;
 
 pub use flat::{FlatBlock, FlatCmd, FlatFunction, FlatProgram};
 pub use flattening::flatten;
-pub use laws::{
-    accepted_places_keep, flattened_asks_no_more, flattened_in_order, flattened_is_lean,
-    flattened_keeps, liveness_is_by_walks, registers_are,
-};
+pub use laws::{accepted_places_keep, liveness_is_by_walks, registers_are};
 pub use placed::{PlacedBlock, PlacedCmd, PlacedFunction, PlacedProgram};
 pub use places::{FunctionPlaces, Place, Places};
 pub use registers::{

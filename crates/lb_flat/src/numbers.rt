@@ -1,7 +1,7 @@
 // The numbers of a function's variables.
 ghost use Rattle.std.specs.Prelude.{◌≡◌, ◌<◌, ◌^◌, length};
 ghost use Rattle.lb_syntax.specs.Names.{IsName};
-ghost use Rattle.lb_flat.specs.Flatten.{place_in};
+ghost use Rattle.lb_flat.specs.Flattened.{place_in};
 
 use lb_syntax::Name;
 use std::alloc::{AllocError, Global};
@@ -30,7 +30,7 @@ impl<'a> Model for VariableNumbers<'a> {
 impl<'a> VariableNumbers<'a> {
     ghost use Rattle.std.specs.Prelude.{◌≡◌, ◌<◌, ◌^◌, length, IfOk};
     ghost use Rattle.lb_syntax.specs.Names.{IsName, Text, is_among, AreDistinct};
-    ghost use Rattle.lb_flat.specs.Flatten.{place_in};
+    ghost use Rattle.lb_flat.specs.Flattened.{place_in};
 
     /// The numbers of these names.
     #[tactic(auto, using(crate::proofs::NumberLemmas::just_more, crate::proofs::NumberLemmas::just_same, crate::proofs::NumberLemmas::numbers_more))]

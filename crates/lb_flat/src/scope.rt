@@ -7,7 +7,7 @@ ghost use Rattle.lb_syntax.specs.Rules.{function_names};
 ghost use Rattle.lb_syntax.specs.WellFormed.{IsWord};
 ghost use Rattle.lb_flat.specs.Code.{Nothing, Sequence};
 ghost use Rattle.lb_flat.specs.Flat.{flat_command, flat_block};
-ghost use Rattle.lb_flat.specs.Flatten.{place_in};
+ghost use Rattle.lb_flat.specs.Flattened.{place_in};
 ghost use Rattle.lb_flat.specs.InternalFlatten.{emitted, Writes};
 
 use crate::flat::{FlatBlock, FlatCmd};
@@ -49,7 +49,7 @@ impl<'a> Scope<'a> {
     ghost use Rattle.lb_syntax.specs.WellFormed.{IsWord, IsTerm, IsCommand, IsBlock};
     ghost use Rattle.lb_flat.specs.Code.{Reserve, Branch, Loop, Nothing, Sequence};
     ghost use Rattle.lb_flat.specs.Flat.{flat_block};
-    ghost use Rattle.lb_flat.specs.Flatten.{place_in};
+    ghost use Rattle.lb_flat.specs.Flattened.{place_in};
     ghost use Rattle.lb_flat.specs.InternalFlatten.{Writes, code_of_term, code_of_terms, holder_of_term, holders_of_terms, code_of, HasTermRoom, HasTermsRoom, HasRoom};
 
     // A scope of these functions and names.

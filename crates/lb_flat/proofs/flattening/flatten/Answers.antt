@@ -3,17 +3,17 @@ use Rattle.lb_syntax.specs.declared.tree.Program.{Program}
 use Rattle.lb_syntax.specs.Tree.{program_of}
 use Rattle.lb_syntax.specs.WellFormed.{IsProcedure}
 use Rattle.lb_flat.specs.Flat.{flat_routine, flat_executable}
-use Rattle.lb_flat.specs.Flatten.{IsFlattened}
+use Rattle.lb_flat.specs.InternalFlatForms.{IsFlattened}
 use Rattle.lb_flat.proofs.FlatForms.{flattened_keeps}
 use Rattle.lb_flat.proofs.FlatCounts.{flattened_asks_no_more}
-use Rattle.lb_flat.proofs.FlatOrder.{words_below, flattened_in_order}
-use Rattle.lb_flat.proofs.FlatLean.{flattened_is_lean}
+use Rattle.lb_flat.proofs.FlatOrder.{words_below, flattened_in_order, flattened_names_by_place}
+use Rattle.lb_flat.proofs.FlatLean.{flattened_accesses, flattened_variables}
 use Rattle.lb_flat.proofs.flattening.flatten.Goals as goal
 
 pub returns-clause-keeps : goal.returns-clause-keeps
 returns-clause-keeps c =
     let form = subst (λ (p : Program). IsFlattened (program_of p) (flat_executable c.in_ok-flat.flat)) c.program.ensures.program c.in_ok-flat.ensures.form in
-    λ layout fuel replies d. flattened_keeps (program_of c.args.program.now) (flat_executable c.in_ok-flat.flat) layout fuel replies c.program.ensures.rules form d
+    flattened_keeps (program_of c.args.program.now) (flat_executable c.in_ok-flat.flat) c.program.ensures.rules form
 
 pub returns-clause-in_order : goal.returns-clause-in_order
 returns-clause-in_order c =
@@ -35,9 +35,14 @@ returns-clause-words c =
 pub returns-clause-accesses : goal.returns-clause-accesses
 returns-clause-accesses c =
     let form = subst (λ (p : Program). IsFlattened (program_of p) (flat_executable c.in_ok-flat.flat)) c.program.ensures.program c.in_ok-flat.ensures.form in
-    flattened_is_lean.accesses (program_of c.args.program.now) (flat_executable c.in_ok-flat.flat) c.program.ensures.rules form
+    flattened_accesses (program_of c.args.program.now) (flat_executable c.in_ok-flat.flat) c.program.ensures.rules form
 
 pub returns-clause-variables : goal.returns-clause-variables
 returns-clause-variables c =
     let form = subst (λ (p : Program). IsFlattened (program_of p) (flat_executable c.in_ok-flat.flat)) c.program.ensures.program c.in_ok-flat.ensures.form in
-    flattened_is_lean.variables (program_of c.args.program.now) (flat_executable c.in_ok-flat.flat) c.program.ensures.rules form
+    flattened_variables (program_of c.args.program.now) (flat_executable c.in_ok-flat.flat) c.program.ensures.rules form
+
+pub returns-clause-functions : goal.returns-clause-functions
+returns-clause-functions c =
+    let form = subst (λ (p : Program). IsFlattened (program_of p) (flat_executable c.in_ok-flat.flat)) c.program.ensures.program c.in_ok-flat.ensures.form in
+    flattened_names_by_place (program_of c.args.program.now) (flat_executable c.in_ok-flat.flat) form

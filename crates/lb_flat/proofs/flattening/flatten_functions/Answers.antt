@@ -5,7 +5,7 @@ use Rattle.lb_syntax.specs.Tree.{procedure_of}
 use Rattle.lb_syntax.specs.Rules.{function_names}
 use Rattle.lb_flat.specs.Code.{Routine}
 use Rattle.lb_flat.specs.Flat.{flat_routine}
-use Rattle.lb_flat.specs.Flatten.{AreFlatForms}
+use Rattle.lb_flat.specs.InternalFlatForms.{AreFlatForms}
 use Rattle.lb_flat.proofs.flattening.flatten_functions.Goals as goal
 
 pub returns-clause-forms : goal.returns-clause-forms

@@ -1,7 +1,7 @@
 use Rattle.std.proofs.Common.{◌≡◌, ◌+◌, drop, map}
 use Rattle.lb_syntax.specs.Tree.{procedure_of}
 use Rattle.lb_syntax.specs.Rules.{function_names}
-use Rattle.lb_flat.specs.Flatten.{place_in}
+use Rattle.lb_flat.specs.Flattened.{place_in}
 use Rattle.lb_flat.proofs.scope.place_of_function.Given as goal
 
 -- none so far: the place counts on into the rest

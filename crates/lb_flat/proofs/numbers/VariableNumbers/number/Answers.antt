@@ -4,7 +4,7 @@ use Rattle.std.specs.Prelude.{Option}
 use Rattle.std.specs.Option.{option_copied}
 use Rattle.std.proofs.lemmas.List.{length-map}
 use Rattle.lb_syntax.specs.Names.{Text}
-use Rattle.lb_flat.specs.Flatten.{place_in}
+use Rattle.lb_flat.specs.Flattened.{place_in}
 use Rattle.lb_flat.specs.InternalFlatten.{texts_of}
 use Rattle.lb_flat.proofs.NumberLemmas.{number_found, number_missing, place_at_most}
 use Rattle.lb_flat.proofs.numbers.VariableNumbers.number.Goals as goal

@@ -1,7 +1,7 @@
 use Rattle.std.proofs.Common.{◌≡◌, ◌++◌, drop, map}
 use Rattle.std.specs.List.{AllByRecursion}
 use Rattle.lb_syntax.specs.Names.{IsName}
-use Rattle.lb_flat.specs.Flatten.{place_in}
+use Rattle.lb_flat.specs.Flattened.{place_in}
 use Rattle.lb_flat.proofs.scope.Scope.numbers.Given as goal
 
 -- the numbers so far, and those of what is left, are all; all are names if the rest are

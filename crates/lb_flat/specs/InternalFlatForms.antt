@@ -1,7 +1,6 @@
 -- Flat code for the source's commands. A function's variables are numbered, and the numbers behind theirs are temporaries, which hold
--- the values of parts of an expression that are no variables.
-use Rattle.std.specs.Prelude.{◌≡◌, ℕ, suc, ◌+◌, if◌then◌else◌, List, [], ◌∷◌, length, map, codes, Option, Some, None, unwrap_or}
-use Rattle.std.specs.Str.{bytes_eq}
+-- the values of parts of an expression that are no variables. What stands here is cited by contracts of private functions only.
+use Rattle.std.specs.Prelude.{◌≡◌, ℕ, ◌+◌, List, [], ◌∷◌, length, map, codes, Option, Some, None, unwrap_or}
 use Rattle.lb_syntax.specs.Names.{Text, is_among, AreDistinct}
 use Rattle.lb_syntax.specs.Tree.{Term, Number, Variable, Loaded, Operation, Procedure}
 use Rattle.lb_syntax.specs.Tree.{Command, Skips, Sets, Unsets, Stores, Allocates, Chooses, Repeats, Calls, Interacts, Ends, Then}
@@ -10,6 +9,7 @@ use Rattle.lb_syntax.specs.Rules.{function_names}
 use Rattle.lb_flat.specs.Code.{Constant, Copy, Compute, Load, Store, Forget, Call, Access}
 use Rattle.lb_flat.specs.Code.{Code, Plain, Reserve, Branch, Loop, Nothing, Sequence, Routine, Executable}
 use Rattle.lb_flat.specs.SourceCounts.{greatest_arguments}
+use Rattle.lb_flat.specs.Flattened.{place_in}
 
 -- ---- expressions
 
@@ -62,11 +62,6 @@ flat_code number function t (Then c d) rest = flat_code number function t c (fla
 
 -- ---- functions and programs
 
--- the place of the first that is this name; for a name that isn't there, their number
-abbrev pub place_in : List Text → Text → ℕ
-place_in [] x = 0
-place_in (y ∷ ys) x = if bytes_eq y x then 0 else suc (place_in ys x)
-
 -- the names of a function's variables, in any order, each once
 pub record AreNamesOf (f : Procedure) (names : List Text) : Type 0 where
   pub distinct : AreDistinct names
@@ -93,7 +88,7 @@ AreFlatForms functions [] [] = Unit {0}
 AreFlatForms functions (f ∷ fs) (g ∷ gs) = IsFlatForm functions f g × AreFlatForms functions fs gs
 AreFlatForms functions _ _ = ⊥
 
--- a program and its flat form
+-- a program and its flat form, which numbers the functions by the places of their names
 pub record IsFlattened (p : List Procedure) (q : Executable ℕ) : Type 0 where
   pub routines : AreFlatForms (function_names p) p q.routines
   pub init : q.init ≡ place_in (function_names p) (codes "init")
