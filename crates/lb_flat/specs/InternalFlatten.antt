@@ -1,5 +1,5 @@
 -- Flat commands as `flatten` writes them. What stands here is cited by contracts of private functions only.
-use Rattle.std.specs.Prelude.{◌≡◌, ℕ, suc, ◌+◌, ◌<◌, ◌^◌, if◌then◌else◌, List, [], ◌∷◌, length, map, Option, Some, None}
+use Rattle.std.specs.Prelude.{◌≡◌, ℕ, suc, ◌+◌, ◌<◌, ◌≤◌, ◌^◌, if◌then◌else◌, List, [], ◌∷◌, length, map, Option, Some, None}
 use Rattle.std.specs.Borrow.{Bor}
 use Rattle.std.specs.BTreeMap.{BTreeMap, get_by}
 use Rattle.std.specs.Cmp.Lexicographic.{slice_cmp}
@@ -7,7 +7,10 @@ use Rattle.std.specs.Option.{option_map}
 use Rattle.std.specs.Ordering.{nat_cmp}
 use Rattle.std.specs.Str.{bytes_eq}
 use Rattle.lb_syntax.specs.Names.{Text}
-use Rattle.lb_syntax.specs.Tree.{Term, Command, Procedure}
+use Rattle.lb_syntax.specs.declared.limits.TheConstants.{MOST_FUNCTIONS}
+use Rattle.lb_syntax.specs.declared.tree.Function.{Function}
+use Rattle.lb_syntax.specs.Tree.{Term, Command, Procedure, procedure_of}
+use Rattle.lb_syntax.specs.Rules.{function_names}
 use Rattle.lb_syntax.specs.Needs.{depth, greatest, greatest_depth, variables}
 use Rattle.lb_check.specs.Parts.{body_parts}
 use Rattle.lb_flat.specs.declared.flat.FlatCmd.{FlatCmd}
@@ -30,6 +33,14 @@ Writes old new code = (rest : Code ℕ) → emitted new rest ≡ emitted old (co
 pub record Numbering : Type 0 where
   pub functions : List Text
   pub names : List Text
+
+-- of these functions, with these names of variables
+abbrev pub numbering_of : List Function → List Text → Numbering
+numbering_of functions names = record { functions = function_names (map procedure_of functions); names = names }
+
+-- few enough of both that their places are numbers of 32 bits
+abbrev pub IsNumberable : List Function → List Text → Type 0
+IsNumberable functions names = (length names < 2 ^ 32) × (length functions ≤ MOST_FUNCTIONS)
 
 -- the texts of these bytes
 abbrev pub texts_of : List (Bor (List ℕ)) → List Text
@@ -61,6 +72,22 @@ holders_of_terms s es t = holders (place_in s.names) es t
 -- the code of a command or a block: the variables behind those with names are temporaries
 abbrev pub code_of : Numbering → Command → Code ℕ → Code ℕ
 code_of s c rest = flat_code (place_in s.names) (place_in s.functions) (length s.names) c rest
+
+-- the code of an expression, of several, or of a command or a block was written behind other code
+abbrev pub WritesTerm : Numbering → Term → Option ℕ → ℕ → List FlatCmd → List FlatCmd → Type 0
+WritesTerm s e target t old new = Writes old new (code_of_term s e target t)
+
+abbrev pub WritesTerms : Numbering → List Term → ℕ → List FlatCmd → List FlatCmd → Type 0
+WritesTerms s es t old new = Writes old new (code_of_terms s es t)
+
+abbrev pub WritesCommand : Numbering → Command → List FlatCmd → List FlatCmd → Type 0
+WritesCommand s c old new = Writes old new (code_of s c)
+
+-- the code of a condition was written, behind other code, and then this command, which reads the variable that has its value
+abbrev pub WritesTest : Numbering → Term → (ℕ → Code ℕ) → List FlatCmd → List FlatCmd → Type 0
+WritesTest s e command old new =
+    let t = length s.names in
+    Writes old new (λ rest. code_of_term s e None t (Sequence (command (holder_of_term s e None t)) rest))
 
 -- the numbers of the temporaries of an expression from t on are words, and those of several
 abbrev pub HasTermRoom : ℕ → Term → Type 0

@@ -36,7 +36,8 @@ impl<'a> VariableNumbers<'a> {
     #[tactic(auto, using(crate::proofs::NumberLemmas::just_more, crate::proofs::NumberLemmas::just_same, crate::proofs::NumberLemmas::numbers_more))]
     pub fn new(alloc: Global, names: &'a [Name]) -> Result<VariableNumbers<'a>, AllocError>
         ensures distinct { IfOk result (λ made. AreDistinct made) }
-        ensures same { IfOk result (λ made. (x : Text) → is_among made x ≡ is_among names.entry.now x) }
+        ensures same { IfOk result (λ made.
+            (x : Text) → is_among made x ≡ is_among names.entry.now x) }
     {
         let mut made = Vec::new(alloc);
         let mut numbers = BTreeMap::new(alloc);

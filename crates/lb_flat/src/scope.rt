@@ -27,17 +27,13 @@ pub struct Scope<'a> {
 }
 
 impl<'a> Model for Scope<'a> {
-    ghost use Rattle.std.specs.Prelude.{◌<◌, ◌≤◌, ◌^◌, map, length};
-    ghost use Rattle.lb_syntax.specs.declared.limits.TheConstants.{MOST_FUNCTIONS};
-    ghost use Rattle.lb_syntax.specs.Tree.{procedure_of};
-    ghost use Rattle.lb_syntax.specs.Rules.{function_names};
-    ghost use Rattle.lb_flat.specs.InternalFlatten.{Numbering};
+    ghost use Rattle.lb_flat.specs.InternalFlatten.{Numbering, numbering_of, IsNumberable};
 
     ghost Value = { Numbering };
 
-    ghost view = { λ s. record { functions = function_names (map procedure_of s.functions.now); names = s.names } };
+    ghost view = { λ s. numbering_of s.functions.now s.names };
 
-    ghost invariant = { λ s. (length s.names < 2 ^ 32) × (length s.functions.now ≤ MOST_FUNCTIONS) };
+    ghost invariant = { λ s. IsNumberable s.functions.now s.names };
 }
 
 impl<'a> Scope<'a> {
@@ -50,13 +46,15 @@ impl<'a> Scope<'a> {
     ghost use Rattle.lb_flat.specs.Code.{Reserve, Branch, Loop, Nothing, Sequence};
     ghost use Rattle.lb_flat.specs.Flat.{flat_block};
     ghost use Rattle.lb_flat.specs.Flattened.{place_in};
-    ghost use Rattle.lb_flat.specs.InternalFlatten.{Writes, code_of_term, code_of_terms, holder_of_term, holders_of_terms, code_of, HasTermRoom, HasTermsRoom, HasRoom};
+    ghost use Rattle.lb_flat.specs.InternalFlatten.{Writes, WritesTerm, WritesTerms, WritesCommand, WritesTest};
+    ghost use Rattle.lb_flat.specs.InternalFlatten.{code_of_term, holder_of_term, holders_of_terms, code_of, HasTermRoom, HasTermsRoom, HasRoom};
 
-    // A scope of these functions and names.
+    /// A scope of these functions and names.
     pub fn new(alloc: Global, functions: &'a [Function], names: VariableNumbers<'a>) -> Scope<'a>
         requires names { length names < 2 ^ 32 }
         requires functions { length functions.now ≤ MOST_FUNCTIONS }
-        ensures functions { result.functions ≡ function_names (map procedure_of functions.entry.now) }
+        ensures functions { result.functions
+            ≡ function_names (map procedure_of functions.entry.now) }
         ensures names { result.names ≡ names.entry }
     {
         Scope {
@@ -66,7 +64,7 @@ impl<'a> Scope<'a> {
         }
     }
 
-    // The number of the first variable without a name.
+    /// The number of the first variable without a name.
     pub fn first_temporary(&self) -> u32
         ensures { result ≡ length self.now.names }
     {
@@ -81,7 +79,7 @@ impl<'a> Scope<'a> {
         self.names.number(name)
     }
 
-    // The numbers of several variables.
+    /// The numbers of several variables. Fails only for want of memory.
     pub fn numbers(&self, names: &[Name]) -> Result<Items<u32>, AllocError>
         ensures value { IfOk result (λ numbers. numbers ≡ map (place_in self.now.names) names.now) }
         ensures are_names { OnOk result (All IsName names.now) }
@@ -104,7 +102,8 @@ impl<'a> Scope<'a> {
     ) -> Result<u32, AllocError>
         requires { HasTermRoom t (term_of e.now) }
         ensures holder { IfOk result (λ n. n ≡ holder_of_term self.now (term_of e.now) target t) }
-        ensures code { OnOk result (Writes code.old code.new (code_of_term self.now (term_of e.now) target t)) }
+        ensures code { OnOk result
+            (WritesTerm self.now (term_of e.now) target t code.old code.new) }
         ensures well_formed { OnOk result (IsTerm (term_of e.now)) }
     {
         match e {
@@ -152,9 +151,10 @@ impl<'a> Scope<'a> {
         name: &Name,
         target: Option<u32>,
     ) -> Result<u32, AllocError>
-        ensures holder { IfOk result (λ n. n ≡ holder_of_term self.now (Variable name.now) target 0) }
+        ensures holder { IfOk result (λ n.
+            n ≡ holder_of_term self.now (Variable name.now) target 0) }
         ensures code { OnOk result ((t : ℕ) →
-            Writes code.old code.new (code_of_term self.now (Variable name.now) target t)) }
+            WritesTerm self.now (Variable name.now) target t code.old code.new) }
         ensures well_formed { OnOk result (IsTerm (Variable name.now)) }
     {
         let source = self.number(name);
@@ -176,8 +176,10 @@ impl<'a> Scope<'a> {
         t: u32,
     ) -> Result<Items<u32>, AllocError>
         requires { HasTermsRoom t (map term_of es.now) }
-        ensures holders { IfOk result (λ numbers. numbers ≡ holders_of_terms self.now (map term_of es.now) t) }
-        ensures code { OnOk result (Writes code.old code.new (code_of_terms self.now (map term_of es.now) t)) }
+        ensures holders { IfOk result (λ numbers.
+            numbers ≡ holders_of_terms self.now (map term_of es.now) t) }
+        ensures code { OnOk result
+            (WritesTerms self.now (map term_of es.now) t code.old code.new) }
         ensures well_formed { OnOk result (All IsTerm (map term_of es.now)) }
     {
         let mut numbers = Items::new(self.alloc);
@@ -197,8 +199,8 @@ impl<'a> Scope<'a> {
         value: &Expr,
     ) -> Result<(), AllocError>
         requires { HasRoom (length self.now.names) (Sets target.now (term_of value.now)) }
-        ensures code { OnOk result (Writes code.old code.new (code_of self.now
-            (Sets target.now (term_of value.now)))) }
+        ensures code { let c = Sets target.now (term_of value.now) in
+            OnOk result (WritesCommand self.now c code.old code.new) }
         ensures well_formed { OnOk result (IsCommand (Sets target.now (term_of value.now))) }
     {
         let target = self.number(target);
@@ -214,10 +216,12 @@ impl<'a> Scope<'a> {
         address: &Expr,
         value: &Expr,
     ) -> Result<(), AllocError>
-        requires { HasRoom (length self.now.names) (Stores width (term_of address.now) (term_of value.now)) }
-        ensures code { OnOk result (Writes code.old code.new (code_of self.now
-            (Stores width (term_of address.now) (term_of value.now)))) }
-        ensures well_formed { OnOk result (IsCommand (Stores width (term_of address.now) (term_of value.now))) }
+        requires { let c = Stores width (term_of address.now) (term_of value.now) in
+            HasRoom (length self.now.names) c }
+        ensures code { let c = Stores width (term_of address.now) (term_of value.now) in
+            OnOk result (WritesCommand self.now c code.old code.new) }
+        ensures well_formed { let c = Stores width (term_of address.now) (term_of value.now) in
+            OnOk result (IsCommand c) }
     {
         let t = self.first_temporary();
         let address = self.add_term(code, address, None, t)?;
@@ -240,10 +244,12 @@ impl<'a> Scope<'a> {
         function: &Name,
         arguments: &[Expr],
     ) -> Result<(), AllocError>
-        requires { HasRoom (length self.now.names) (Calls targets.now function.now (map term_of arguments.now)) }
-        ensures code { OnOk result (Writes code.old code.new (code_of self.now
-            (Calls targets.now function.now (map term_of arguments.now)))) }
-        ensures well_formed { OnOk result (IsCommand (Calls targets.now function.now (map term_of arguments.now))) }
+        requires { let c = Calls targets.now function.now (map term_of arguments.now) in
+            HasRoom (length self.now.names) c }
+        ensures code { let c = Calls targets.now function.now (map term_of arguments.now) in
+            OnOk result (WritesCommand self.now c code.old code.new) }
+        ensures well_formed { let c = Calls targets.now function.now (map term_of arguments.now) in
+            OnOk result (IsCommand c) }
     {
         let arguments = self.add_terms(code, arguments, self.first_temporary())?;
         let targets = self.numbers(targets)?;
@@ -266,10 +272,12 @@ impl<'a> Scope<'a> {
         action: Action,
         arguments: &[Expr],
     ) -> Result<(), AllocError>
-        requires { HasRoom (length self.now.names) (Interacts targets.now action (map term_of arguments.now)) }
-        ensures code { OnOk result (Writes code.old code.new (code_of self.now
-            (Interacts targets.now action (map term_of arguments.now)))) }
-        ensures well_formed { OnOk result (IsCommand (Interacts targets.now action (map term_of arguments.now))) }
+        requires { let c = Interacts targets.now action (map term_of arguments.now) in
+            HasRoom (length self.now.names) c }
+        ensures code { let c = Interacts targets.now action (map term_of arguments.now) in
+            OnOk result (WritesCommand self.now c code.old code.new) }
+        ensures well_formed { let c = Interacts targets.now action (map term_of arguments.now) in
+            OnOk result (IsCommand c) }
     {
         let arguments = self.add_terms(code, arguments, self.first_temporary())?;
         let targets = self.numbers(targets)?;
@@ -291,8 +299,8 @@ impl<'a> Scope<'a> {
         target: &Name,
         body: FlatBlock,
     ) -> Result<(), AllocError>
-        ensures code { let target = place_in self.now.names target.now in
-            OnOk result (Writes code.old code.new (Sequence (Reserve bytes target (flat_block body)))) }
+        ensures code { let made = Reserve bytes (place_in self.now.names target.now) (flat_block body) in
+            OnOk result (Writes code.old code.new (Sequence made)) }
         ensures well_formed { OnOk result (IsWord bytes × IsName target.now) }
     {
         let (bytes, target) = (word(bytes), self.number(target));
@@ -315,10 +323,8 @@ impl<'a> Scope<'a> {
         no: FlatBlock,
     ) -> Result<(), AllocError>
         requires { HasTermRoom (length self.now.names) (term_of condition.now) }
-        ensures code { let t = length self.now.names in
-            let test = holder_of_term self.now (term_of condition.now) None t in
-            OnOk result (Writes code.old code.new (λ rest. code_of_term self.now (term_of condition.now) None t
-            (Sequence (Branch test (flat_block yes) (flat_block no)) rest))) }
+        ensures code { OnOk result (WritesTest self.now (term_of condition.now)
+            (λ test. Branch test (flat_block yes) (flat_block no)) code.old code.new) }
         ensures well_formed { OnOk result (IsTerm (term_of condition.now)) }
     {
         let condition = self.add_term(code, condition, None, self.first_temporary())?;
@@ -355,7 +361,7 @@ impl<'a> Scope<'a> {
     #[cycle(commands)]
     fn add_command(&self, c: &Cmd, code: &mut Items<FlatCmd>) -> Result<(), AllocError>
         requires { HasRoom (length self.now.names) (command_of c.now) }
-        ensures code { OnOk result (Writes code.old code.new (code_of self.now (command_of c.now))) }
+        ensures code { OnOk result (WritesCommand self.now (command_of c.now) code.old code.new) }
         ensures well_formed { OnOk result (IsCommand (command_of c.now)) }
     {
         match c {
@@ -399,11 +405,12 @@ impl<'a> Scope<'a> {
         }
     }
 
-    // The code of a block.
+    /// The code of a block. Fails only for want of memory.
     #[cycle(commands)]
     pub fn block(&self, block: &Block) -> Result<FlatBlock, AllocError>
         requires { HasRoom (length self.now.names) (block_of block.now) }
-        ensures code { IfOk result (λ made. flat_block made ≡ code_of self.now (block_of block.now) Nothing) }
+        ensures code { IfOk result (λ made.
+            flat_block made ≡ code_of self.now (block_of block.now) Nothing) }
         ensures well_formed { OnOk result (IsBlock (block_of block.now)) }
     {
         let mut code = Items::new(self.alloc);
