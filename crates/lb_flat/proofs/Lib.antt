@@ -19,6 +19,7 @@ pub mod FlatOrder
 pub mod EmittedLemmas
 pub mod NumberLemmas
 pub mod CountableLemmas
+pub mod CallPathLemmas
 mod Examples
 mod FlatExamples
 mod OrderExamples

@@ -10,18 +10,16 @@ use Rattle.std.specs.Ordering.{nat_cmp}
 use Rattle.std.proofs.lemmas.Map.Text.{btree_map_updates_str}
 use Rattle.lb_flat.specs.Flattened.{place_in}
 use Rattle.lb_flat.specs.InternalFlatten.{number_in, texts_of, AreTheirNumbers}
-use Rattle.std.proofs.lemmas.List.{take_more}
 use Rattle.std.specs.Str.{bytes_eq}
 use Rattle.lb_syntax.specs.Names.{Text, is_among, AreDistinct}
 use Rattle.lb_syntax.proofs.DistinctLemmas.{bytes_eq-same, bytes_eq_comm, is_among-push}
+use Rattle.lb_check.proofs.NameSets.{names_back}
+use Rattle.lb_flat.proofs.BooleanLemmas.{or_false}
 
 -- these are the names of the list, each once
 pub record AreJust (made names : List Text) : Type 0 where
   pub distinct : AreDistinct made
   pub same : (x : Text) → is_among made x ≡ is_among names x
-
-or_false : (a b : Bool) → a ≡ false → b ≡ false → (a || b) ≡ false
-or_false a b e f = cc
 
 first_false : (a b : Bool) → (a || b) ≡ false → a ≡ false
 first_false true b e = e
@@ -44,16 +42,13 @@ push_distinct (y ∷ ys) x d e = (
   push_distinct ys x d.1 (second_false (bytes_eq y x) (is_among ys x) e),
 )
 
-next : (names : List Text) (i : ℕ) (x : Text) → i < length names → x ≡ get_or names i x → take (i + 1) names ≡ take i names ++ x ∷ []
-next names i x h is = take_more names i x h ∙ ap (λ (y : Text). take i names ++ y ∷ []) (sym is)
-
 pub just_more : (made names : List Text) (i : ℕ) (x : Text) → i < length names → x ≡ get_or names i x → is_among made x ≡ false
     → AreJust made (take i names) → AreJust (made ++ x ∷ []) (take (i + 1) names)
 just_more made names i x h is fresh just = record {
   distinct = push_distinct made x just.distinct fresh;
   same = λ y.
       is_among-push made x y ∙ ap (λ b. b || bytes_eq x y) (just.same y) ∙ sym (is_among-push (take i names) x y)
-      ∙ ap (λ (l : List Text). is_among l y) (sym (next names i x h is));
+      ∙ ap (λ (l : List Text). is_among l y) (sym (names_back names i x h is));
 }
 
 pub just_same : (made names : List Text) (i : ℕ) (x : Text) → i < length names → x ≡ get_or names i x → is_among made x ≡ true
@@ -64,7 +59,7 @@ just_same made names i x h is there just = record {
       just.same y
       ∙ or_true (is_among (take i names) y) (bytes_eq x y) (λ e. ap (λ (z : Text). is_among (take i names) z) (sym (bytes_eq-same x y e)) ∙ sym (just.same x) ∙ there)
       ∙ sym (is_among-push (take i names) x y)
-      ∙ ap (λ (l : List Text). is_among l y) (sym (next names i x h is));
+      ∙ ap (λ (l : List Text). is_among l y) (sym (names_back names i x h is));
 }
 
 -- ---- numbers

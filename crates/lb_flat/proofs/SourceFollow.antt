@@ -29,7 +29,7 @@ source_goes : (o : source.Outcome) → source.then_do o source.Goes ≡ o
 source_goes (source.Goes s) = refl
 source_goes (source.Stops t e) = refl
 
-then_goes : {V : Type 0} (o : Outcome V) → then_do o Goes ≡ o
+pub then_goes : {V : Type 0} (o : Outcome V) → then_do o Goes ≡ o
 then_goes (Goes a w) = refl
 then_goes (Stops t e) = refl
 
