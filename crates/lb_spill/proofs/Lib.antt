@@ -1,5 +1,6 @@
 pub mod EmittedLemmas
 pub mod SpillSites
+pub mod SpillCalls
 pub mod SpillCells
 pub mod SpillPlain
 pub mod SpillKeep

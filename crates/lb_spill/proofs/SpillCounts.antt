@@ -26,6 +26,7 @@ use Rattle.lb_flat.proofs.FlatForms.{by_elements}
 use Rattle.lb_spill.specs.InternalSpill.{in_register, in_registers, got, got_all, put_back, computed, copied, spill_plain, spill, slots_of, spilled, all_spilled, NamesBelow, NamesOwn}
 use Rattle.lb_spill.specs.Placing.{AsksNoMore, AllAskNoMore, UsesFewSlots, AllUseFewSlots, IsLeanInRegisters}
 use Rattle.lb_spill.proofs.SpillSites.{block_sites}
+use Rattle.lb_spill.proofs.SpillCalls.{routine_callees}
 
 -- ---- weights that spilled code keeps
 
@@ -337,6 +338,7 @@ routine_asks fs f places keeps accepted = record {
   params = length-map f.params cell;
   results = length-map f.results cell;
   blocks = blocks;
+  calls = routine_callees f places;
   loads = block_total load_weight load_weight loads_kept cell f.body;
   stores = block_total store_weight store_weight stores_kept cell f.body;
   accesses = block_total access_weight access_weight accesses_kept cell f.body;

@@ -4,6 +4,7 @@ use Rattle.lb_syntax.specs.declared.layout.Layout.{Layout}
 use Rattle.lb_source.specs.Defined.{IsDefined}
 use Rattle.lb_flat.specs.declared.places.Place.{Place}
 use Rattle.lb_flat.specs.Code.{Routine, Executable, sites}
+use Rattle.lb_flat.specs.Calls.{callees}
 use Rattle.lb_flat.specs.Counts.{loads, stores, accesses, arguments, targets, slot_moves}
 use Rattle.lb_flat.specs.Needs.{frame_need, flat_routine_words, placed_routine_words}
 use Rattle.lb_flat.specs.Needs.{flat_accesses_need, placed_accesses_need}
@@ -29,12 +30,14 @@ HasFlatRuns p q =
 
 -- ---- needs
 
--- a placed function asks for no more than the flat one
+-- a placed function asks for no more than the flat one, and calls the same functions, by their
+-- numbers, in the same order
 pub record AsksNoMore (f : Routine ℕ) (g : Routine Place) : Type 0 where
   pub slots : g.variables ≤ f.variables
   pub params : length g.params ≡ length f.params
   pub results : length g.results ≡ length f.results
   pub blocks : sites g.body ≡ sites f.body
+  pub calls : callees g.body ≡ callees f.body
   pub loads : loads g.body ≡ loads f.body
   pub stores : stores g.body ≡ stores f.body
   pub accesses : accesses g.body ≡ accesses f.body

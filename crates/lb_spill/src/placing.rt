@@ -23,10 +23,11 @@ use std::alloc::{AllocError, Global};
 /// For every layout of the stack, every number of turns and all replies, it has the same trace and
 /// end as the flat program, with its variables in these places and without, wherever that does
 /// nothing undefined. It is in order. Function by function it asks for no more slots, words and
-/// bytes of a frame than the flat program, has the same stack blocks, and has as many parameters,
-/// results, loads, stores, accesses, arguments and targets. It has as few slots as its places
-/// allow. A function whose variables all have registers has no slot, and moves nothing from or to
-/// one. Fails only for want of memory.
+/// bytes of a frame than the flat program, has the same stack blocks, calls the same functions in
+/// the same order, and has as many parameters, results, loads, stores, accesses, arguments and
+/// targets. It has as few slots as its places allow. A function whose variables all have registers
+/// has no slot, and moves nothing from or to one. `init` and `loop` keep their numbers. Fails only
+/// for want of memory.
 pub fn place(
     alloc: Global,
     flat: &FlatProgram,
@@ -47,6 +48,8 @@ pub fn place(
     ensures lean { IfOk result (λ placed.
         IsLeanInRegisters (lists_of places.now) (flat_executable flat.now).routines
         (placed_executable placed).routines) }
+    ensures init { IfOk result (λ placed. placed.init ≡ flat.now.init) }
+    ensures again { IfOk result (λ placed. placed.again ≡ flat.now.again) }
 {
     let placed = place_program(alloc, flat, places)?;
     Ok(placed)

@@ -1,4 +1,4 @@
-use Rattle.std.proofs.Common.{sym, ◌∙◌, subst}
+use Rattle.std.proofs.Common.{sym, ap, ◌∙◌, subst}
 use Rattle.lb_source.specs.declared.ends.SourceRun.{SourceRun}
 use Rattle.lb_source.specs.Defined.{IsDefined}
 use Rattle.lb_flat.specs.declared.places.Place.{Place}
@@ -59,3 +59,9 @@ returns-clause-lean c =
     (is_lean_in_registers flat.routines lists _
     (all_ask_no_more flat.routines flat.routines lists (by_elements (KeepsRoutineRules IsVariable flat.routines) flat.routines c.requires.in_order.routines) c.requires.accepted)
     (all_use_few_slots flat.routines lists (all_name_own flat c.requires.in_order) c.requires.accepted))
+
+pub returns-clause-init : goal.returns-clause-init
+returns-clause-init c = ap (λ (q : Executable Place). q.init) c.in_ok-placed.ensures
+
+pub returns-clause-again : goal.returns-clause-again
+returns-clause-again c = ap (λ (q : Executable Place). q.again) c.in_ok-placed.ensures
