@@ -17,6 +17,7 @@ use Rattle.lb_flat.specs.Located.{place_of, located_at}
 use Rattle.lb_flat.specs.Accepted.{MayHold, AreAllAccepted}
 use Rattle.lb_flat.proofs.FlatForms.{by_elements}
 use Rattle.lb_flat.proofs.FlatSites.{drop_both}
+use Rattle.lb_flat.proofs.SourceFollow.{then_goes}
 use Rattle.lb_flat.proofs.Follow.{Follows, both_go, both_stop, owes_nothing, then_follows, value_follows, zero_follows, spend_follows, Same, CallsFollow, end_alike, ever_alike}
 use Rattle.lb_spill.specs.InternalSpill.{in_register, got, put_back, spill, spilled, all_spilled, spilled_executable}
 use Rattle.lb_spill.specs.Placing.{HasLocatedRuns}
@@ -29,10 +30,6 @@ use Rattle.lb_spill.proofs.SpillPlain.{plain_follows}
 then_assoc : {V U T : Type 0} (o : Outcome V) (f : V → World → Outcome U) (g : U → World → Outcome T) → then_do (then_do o f) g ≡ then_do o (λ a w. then_do (f a w) g)
 then_assoc (Goes a w) f g = refl
 then_assoc (Stops t e) f g = refl
-
-then_goes : {V : Type 0} (o : Outcome V) → then_do o Goes ≡ o
-then_goes (Goes a w) = refl
-then_goes (Stops t e) = refl
 
 regroup : (R : Cells → Cells → Type 0) (p o : Outcome Cells) (f K : Cells → World → Outcome Cells) → Follows R (then_do o (λ a u. then_do (f a u) K)) p → Follows R (then_do (then_do o f) K) p
 regroup R p o f K h = subst (λ q. Follows R q p) (sym (then_assoc o f K)) h
