@@ -200,7 +200,7 @@ impl CodeBuffer {
         }
     }
 
-    /// And greater.
+    /// The stack pointer becomes so much greater.
     pub fn stack_up(&mut self, size: u32) -> Result<(), AllocError>
         ensures code { OnOk result (self.new ≡ self.old ++ up_code size) }
         ensures long { OnOk result (length self.new ≡ length self.old + reach_words size) }

@@ -206,7 +206,8 @@ impl<'a> Emitter<'a> {
     ) -> Result<(), AllocError>
         requires before_slots { NamesSlots self.now.frame.slots (placed_block before.now) }
         requires body_slots { NamesSlots self.now.frame.slots (placed_block body.now) }
-        requires before_functions { CallsFunctions (length self.now.entries) (placed_block before.now) }
+        requires before_functions { CallsFunctions (length self.now.entries)
+            (placed_block before.now) }
         requires body_functions { CallsFunctions (length self.now.entries) (placed_block body.now) }
         requires room { length out.old.code + 3
             + code_words self.now.frame (placed_block before.now)

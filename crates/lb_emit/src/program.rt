@@ -42,8 +42,10 @@ pub struct Emitted {
 
 /// The RV32IM code of a placed program that is in order. Its layout is valid for the program. All of it
 /// is in the ranges of an image. It has no more words, and among them no more loads and stores, than the
-/// program asks for. Whatever the devices reply, it does what the program does, in time, and nothing
-/// else, and doesn't halt, where the program does nothing undefined. Fails only for want of memory.
+/// program asks for. Whatever words the devices reply, where the program does nothing undefined with fuel
+/// n: what n instructions do to devices is a beginning of what the program does, and they don't halt; and
+/// the code does what the program does within (n + 1) times as many instructions as the program asks for
+/// words. Fails only for want of memory.
 pub fn emit(alloc: Global, program: &PlacedProgram) -> Result<Emitted, AllocError>
     requires in_order { IsPlacedInOrder (placed_executable program.now) }
     ensures code { IfOk result (λ emitted.
