@@ -19,7 +19,7 @@ pub record Keeps (p : List Procedure) (i : Image) : Type 0 where
   pub image : IsImage i
   -- the code has no more words than the program asks for
   pub few : length i.code ≤ code_need p
-  -- whatever the devices reply: where the program does nothing undefined with fuel n, what n instructions do to devices is the
+  -- whatever words the devices reply: where the program does nothing undefined with fuel n, what n instructions do to devices is the
   -- beginning of what the program does, and the processor isn't halted; and what the program does is the beginning of what
   -- n + 1 times as many instructions do as the program asks for words
   pub implements : Implements (src p i.layout) (code_need p)

@@ -12,9 +12,10 @@ use lb_spill::place;
 use std::alloc::{AllocError, Global};
 
 /// The image of a program. Its layout is valid for the program, and its code has no more words than the program asks for.
-/// Whatever the devices reply, the code does what the program does, in time, and nothing else, and the processor isn't
-/// halted, wherever the program does nothing undefined. If the program's functions need few variables, few words of the
-/// code are loads and stores. Fails only for want of memory.
+/// Whatever words the devices reply, where the program does nothing undefined with fuel n: what n instructions of the code
+/// do to devices is a beginning of what the program does, and the processor isn't halted behind them; and the code does what
+/// the program does within (n + 1) times as many instructions as the program asks for words. If the program's functions need
+/// few variables, few words of the code are loads and stores. Fails only for want of memory.
 pub fn compile(alloc: Global, program: &Checked) -> Result<Image, AllocError>
     ensures keeps { IfOk result (λ image. Keeps (program_of program.now) image) }
     ensures lean { IfOk result (λ image. IsLean (program_of program.now) image) }

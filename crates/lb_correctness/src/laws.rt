@@ -11,7 +11,9 @@ use lb_machine::{entries_are_bounded, events_are_few};
 /// Of a program and its image: after every legal log of a machine with this image, whatever frames
 /// arrive, what the machine did to devices is the beginning of what the program does for the same
 /// replies, and the core isn't halted, where the program does nothing undefined with as much fuel
-/// as instructions are done; and the machine does as much as the program, in time.
+/// as instructions are done; and what the program does with fuel n, where it does nothing
+/// undefined, is the beginning of what the machine did, once that has done at least (n + 1) times
+/// as many instructions as the program asks for words.
 pub fn machines_keep()
     ensures machines { MachinesKeep }
 {

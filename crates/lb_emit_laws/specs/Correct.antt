@@ -55,7 +55,7 @@ pub record IsCodeOf (p : Executable Place) (code : List ℕ) (layout : Layout) (
   pub few : length code ≤ words_need p
   -- and among them no more loads and stores
   pub lean : memory_accesses code ≤ placed_accesses_need p.routines
-  -- whatever the devices reply: where the program does nothing undefined with fuel n, what n instructions do to devices is the
+  -- whatever words the devices reply: where the program does nothing undefined with fuel n, what n instructions do to devices is the
   -- beginning of what the program does, and the processor isn't halted; and what the program does is the beginning of what
   -- n + 1 times as many instructions do as the program asks for words
   pub implements : Implements (placed_run p layout) (words_need p) (shown code entry) (halts code entry)
