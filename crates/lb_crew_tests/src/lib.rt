@@ -4,8 +4,6 @@
 #[cfg(test)]
 mod calls;
 #[cfg(test)]
-mod gates;
-#[cfg(test)]
 mod stop;
 #[cfg(test)]
 mod tests;

@@ -1,8 +1,8 @@
 // Races of one to eight workers. What a test asserts is told by functions of one machine each: every machine that is
 // at hand where a function may return makes the proof of a function longer.
 use crate::calls::{Size, accesses, alone, boot, has_entry_of, is_whole, log_of, raced, until};
-use crate::gates::{Alternation, Count};
 use crate::stop::Stop;
+use lb_gate_testkit::gates::{Alternation, Count};
 use lb_machine::NotFired;
 use lb_ports::{Gate, OpenGate};
 use lb_trace::Entry;
