@@ -1,4 +1,5 @@
 // The modes that run, replay and judge on the machine, and the lamp.
+use lb_gate_testkit::gates::Alternation;
 use lb_ports::OpenGate;
 use lb_testkit::call::{Answer, Call, call_bulb, call_plain, whole};
 use std::alloc::{AllocError, Global};
@@ -128,7 +129,7 @@ const TCP: &str =
     "ffffffffffff02000000000108004500001d00000000400600000a0000010a000002100010010009000001\n";
 
 const OFF: &str =
-    "ffffffffffff02000000000108004500001d00000000401100000a0000010a0000021000100100090000000000000000000000000000000000000000000000000000000000000000000000000000\n";
+    "ffffffffffff02000000000108004500001d00000000401100000a0000010a0000021000100100090000000000000000000000000000000000000000\n";
 
 // A source that compiles to code which halts the machine, and the cause.
 const HALTING: [(&str, &str); 3] = [
@@ -255,6 +256,45 @@ fn runs_programs(rt: HostRuntime) -> Result<(), Fail> {
     Ok(())
 }
 
+// What is told of a race: its status, and how many entries its log has, of all workers, of worker 0 and of worker 1.
+#[derive(Clone, Copy)]
+struct Race {
+    status: u8,
+    entries: usize,
+    of_first: usize,
+    of_second: usize,
+}
+
+// A run by two workers, which pass the gate.
+fn race<R: Threads + Wait + Sync>(
+    rt: &R,
+    alloc: Global,
+    gate: &Alternation,
+) -> Result<Race, AllocError> {
+    let words = ["bulb", "run", "--events", "1000", "--workers", "2", "--log"];
+    let a = call_bulb(rt, alloc, &call_of(&words, EMPTY.as_bytes()), gate)?;
+    Ok(Race {
+        status: a.status,
+        entries: a.entries,
+        of_first: a.of_first,
+        of_second: a.of_second,
+    })
+}
+
+// Each of the workers that are asked for has a thread of its own, and passes the caller's gate.
+#[test]
+fn two_workers_race(rt: HostRuntime) -> Result<(), Fail> {
+    let gate = Alternation::new();
+    let race = race(&rt, rt.alloc(), &gate)?;
+    assert!(rt; !gate.gave_up());
+    assert_eq!(rt; race.status, 0);
+    assert!(rt; race.of_first > 0);
+    assert!(rt; race.of_second > 0);
+    assert_eq!(rt; race.entries, 1000);
+    assert_eq!(rt; race.of_first.saturating_add(race.of_second), 1000);
+    Ok(())
+}
+
 // Frames don't arrive while nobody listens; with one worker both calls do the same.
 #[test]
 fn runs_alike_by_one_worker(rt: HostRuntime) -> Result<(), Fail> {
@@ -349,14 +389,15 @@ fn switches_the_lamp_on(rt: HostRuntime) -> Result<(), Fail> {
     Ok(())
 }
 
+// In as many events the same frame without its mark switches the lamp on.
 #[test]
 fn leaves_the_lamp_off(rt: HostRuntime) -> Result<(), Fail> {
     let marked = format!(in rt.alloc(); "!{ON}")?;
-    for a in both(&rt, rt.alloc(), "lamp", marked.as_bytes())? {
+    for a in both(&rt, rt.alloc(), "lamp --events 2000000", marked.as_bytes())? {
         assert!(rt;
             lights(
                 &a,
-                &["events 400000", "arrived 1", "lamp off", "switches 0"]
+                &["events 2000000", "arrived 1", "lamp off", "switches 0"]
             )
         );
     }

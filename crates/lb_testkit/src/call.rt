@@ -3,6 +3,7 @@ ghost use Rattle.std.specs.Prelude.{◌≤◌};
 
 use lb_ports::{Gate, MemorySink, MemorySource};
 use lb_system::{Ended, bulb, plain};
+use lb_trace::Entry;
 use std::alloc::{AllocError, Global};
 use std::sync::Wait;
 use std::thread::Threads;
@@ -40,6 +41,10 @@ pub struct Answer {
     pub has_image: bool,
     /// How many entries the log has.
     pub entries: usize,
+    /// How many of them are of worker 0.
+    pub of_first: usize,
+    /// How many of them are of worker 1.
+    pub of_second: usize,
 }
 
 /// Makes the call by `plain`.
@@ -72,7 +77,14 @@ fn answer_of(alloc: Global, ended: &Ended, sink: &MemorySink) -> Result<Answer, 
         written,
         has_image: ended.image.is_some(),
         entries: ended.log.len(),
+        of_first: entries_of(&ended.log, 0),
+        of_second: entries_of(&ended.log, 1),
     })
+}
+
+// How many entries of a log are of the worker.
+fn entries_of(log: &[Entry], worker: u8) -> usize {
+    log.iter().filter(|entry| entry.worker == worker).count()
 }
 
 // The words as the program gets them.
