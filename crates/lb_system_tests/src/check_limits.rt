@@ -73,24 +73,22 @@ fn takes_256_functions(rt: HostRuntime) -> Result<(), Fail> {
     Ok(())
 }
 
-// However long a branch is: 16 + 80 + 80 + 14 + 14 + 126 * 8 = 1,212 words.
+// However long a branch is: 16 + 80 + 80 + 14 + 14 + 125 * 8 = 1,204 words, and 8 more with one `skip` more.
 #[test]
 fn takes_branches_over_4080_bytes(rt: HostRuntime) -> Result<(), Fail> {
-    let text = repeated(
-        rt.alloc(),
-        "fn init() { while 1 { x = 1; ",
-        "skip; ",
-        126,
-        "} } fn loop() { }",
-    )?;
-    assert!(rt;
-        answers(
+    for (many, line) in [
+        (125, "ok functions 2 words 1204 stack 144\n"),
+        (126, "ok functions 2 words 1212 stack 144\n"),
+    ] {
+        let text = repeated(
             rt.alloc(),
-            &text,
-            0,
-            "ok functions 2 words 1212 stack 144\n"
-        )?
-    );
+            "fn init() { while 1 { x = 1; ",
+            "skip; ",
+            many,
+            "} } fn loop() { }",
+        )?;
+        assert!(rt; answers(rt.alloc(), &text, 0, line)?, "of {many}");
+    }
     Ok(())
 }
 

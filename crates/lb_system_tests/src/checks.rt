@@ -125,12 +125,13 @@ const RULES: [(&str, u8, &str); 24] = [
     ),
 ];
 
-const TEXTS: [(&str, &str); 14] = [
+const TEXTS: [(&str, &str); 15] = [
     ("fn init() {", "text at 11 ended\n"),
     ("/", "text at 1 ended\n"),
     ("fn if", "text at 5 ended\n"),
     ("fn init() { \u{1} }", "text at 12 bad-byte\n"),
     ("fn init() { é }", "text at 12 bad-byte\n"),
+    ("fn\0", "text at 2 bad-byte\n"),
     (
         "fn init() { x = 4294967296; } fn loop() { }",
         "text at 25 number-too-wide\n",

@@ -1,5 +1,5 @@
 // Programs at their limits, and one past each.
-use lb_testkit::call::{Call, call_plain, whole};
+use lb_testkit::call::{Answer, Call, call_plain, whole};
 use std::alloc::{AllocError, Global};
 use std::test::Fail;
 
@@ -62,6 +62,32 @@ fn builds_code_up_to_32768_words(rt: HostRuntime) -> Result<(), Fail> {
     assert_eq!(rt; status(rt.alloc(), &text)?, 0);
     let past = assignments(rt.alloc(), 17, 137)?;
     assert_eq!(rt; status(rt.alloc(), &past)?, 4);
+    Ok(())
+}
+
+// What `run` answers to a source of one line, and so many times a part of the lines of frames behind the mark.
+fn answer_to_frames(alloc: Global, part: &str, many: usize) -> Result<Answer, AllocError> {
+    let frames = part.repeat(alloc, many)?;
+    let input = format!(in alloc; "fn init() {{ }} fn loop() {{ }}\n%%\n{frames}")?;
+    call_plain(
+        alloc,
+        &whole(&["bulb", "run", "--events", "5"], input.as_bytes()),
+    )
+}
+
+// Whether the frames are refused with this line.
+fn refuses_frames(alloc: Global, part: &str, many: usize, line: &str) -> Result<bool, AllocError> {
+    let a = answer_to_frames(alloc, part, many)?;
+    Ok(a.status == 5 && a.written.as_slice() == line.as_bytes())
+}
+
+// 64 frames of a byte, one frame of 2,000 bytes, and one more of each.
+#[test]
+fn takes_64_frames_of_2000_bytes(rt: HostRuntime) -> Result<(), Fail> {
+    assert_eq!(rt; answer_to_frames(rt.alloc(), "00\n", 64)?.status, 0);
+    assert!(rt; refuses_frames(rt.alloc(), "00\n", 65, "line 67 too-many\n")?);
+    assert_eq!(rt; answer_to_frames(rt.alloc(), "00", 2000)?.status, 0);
+    assert!(rt; refuses_frames(rt.alloc(), "00", 2001, "line 3 too-long\n")?);
     Ok(())
 }
 

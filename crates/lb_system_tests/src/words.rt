@@ -1,5 +1,6 @@
-// Words with options, which `check` takes and does nothing with.
-use lb_testkit::call::{call_plain, whole};
+// Words with options, which `check` takes and does nothing with, and the forms of the number of events, which `run` makes.
+use lb_testkit::call::{Answer, call_plain, whole};
+use std::alloc::{AllocError, Global};
 use std::test::Fail;
 
 const EMPTY: &[u8] = b"fn init() { } fn loop() { }";
@@ -23,6 +24,7 @@ isa --events 0
 isa isa
 run 1000
 run run
+run --events 5 --events 5
 check check
 check print
 check x
@@ -48,7 +50,17 @@ help
 lamp judge
 Check";
 
-// Whether the words of a line end so.
+// What the program answers to the words of a line.
+fn answer(alloc: Global, line: &str) -> Result<Answer, AllocError> {
+    let mut words = Vec::new(alloc);
+    words.push("bulb")?;
+    for word in line.split(' ') {
+        words.push(word)?;
+    }
+    call_plain(alloc, &whole(&words, EMPTY))
+}
+
+// Whether the words end so.
 #[test]
 fn takes_options(rt: HostRuntime) -> Result<(), Fail> {
     for (lines, status, written) in [
@@ -56,15 +68,34 @@ fn takes_options(rt: HostRuntime) -> Result<(), Fail> {
         (REFUSED, 1, USAGE),
     ] {
         for line in lines.lines() {
-            let mut words = Vec::new(rt.alloc());
-            words.push("bulb")?;
-            for word in line.split(' ') {
-                words.push(word)?;
-            }
-            let a = call_plain(rt.alloc(), &whole(&words, EMPTY))?;
+            let a = answer(rt.alloc(), line)?;
             assert_eq!(rt; a.status, status, "of {line}");
             assert!(rt; a.written.as_slice() == written.as_bytes(), "of {line}");
         }
     }
+    Ok(())
+}
+
+// Whether both lines are answered by the report of five entries.
+fn make_five_entries(alloc: Global, one: &str, other: &str) -> Result<bool, AllocError> {
+    let a = answer(alloc, one)?;
+    let b = answer(alloc, other)?;
+    Ok(
+        a.status == 0
+            && b.status == 0
+            && a.written.starts_with(b"events 5\n")
+            && a.written == b.written,
+    )
+}
+
+#[test]
+fn takes_a_number_with_its_sign(rt: HostRuntime) -> Result<(), Fail> {
+    assert!(rt;
+        make_five_entries(
+            rt.alloc(),
+            "run --events=+5 --workers 1",
+            "run --events 5 --workers 1"
+        )?
+    );
     Ok(())
 }
