@@ -51,8 +51,7 @@ fn log_of(report: &[u8]) -> &[u8] {
     b""
 }
 
-// Asserts that these entries are replayed to the report of a run of as many; and that they aren't read where the last
-// one is cut.
+// Asserts that these entries are replayed to the report of a run of as many.
 fn replays(rt: &impl Abort, alloc: Global, log: &[u8], entries: usize) -> Result<(), AllocError> {
     // Each 32 entries stand in a line.
     let behind = entries.saturating_mul(2).saturating_add(entries / 32);
