@@ -78,15 +78,17 @@ fn writes_until(
 ) -> Result<(), AllocError> {
     let (status, written) = want;
     let place = stop.place.min(written.len());
-    let ports = Ports {
-        source: NEVER,
-        sink: stop,
-        piece: 3,
-    };
-    let counted = slow(alloc, asked, ports)?;
     let status = if status == 0 { 7 } else { status };
-    expect(rt, &counted.told, status, &written[..place], place);
-    expect_counts(rt, &counted, (0, 0, 1), place);
+    for piece in [1usize, 3] {
+        let ports = Ports {
+            source: NEVER,
+            sink: stop,
+            piece,
+        };
+        let counted = slow(alloc, asked, ports)?;
+        expect(rt, &counted.told, status, &written[..place], place);
+        expect_counts(rt, &counted, (0, 0, 1), place);
+    }
     Ok(())
 }
 
