@@ -42,7 +42,8 @@ after_jump rd next m = after_setting rd (next_address m.pc) next m
 
 -- the processor after a branch
 abbrev pub after_branch : Bool → ℤ → IsaContent → ProcessorState
-after_branch is_taken imm m = after_setting 0 0 (if is_taken then plus_immediate m.pc imm else next_address m.pc) m
+after_branch is_taken imm m =
+    after_setting 0 0 (if is_taken then plus_immediate m.pc imm else next_address m.pc) m
 
 -- the processor after an outcome, where the next instruction stands at this address
 abbrev pub after_outcome : Outcome → ℕ → Option ℕ → IsaContent → ProcessorState

@@ -24,7 +24,12 @@ booted code entry = record { pc = entry; registers = boot_registers; ram = boot_
 
 -- a run before its first instruction
 abbrev pub start : List ℕ → ℕ → List ℕ → RunState
-start code entry replies = record { processor = booted code entry; replies = replies; trace = []; committed = 0 }
+start code entry replies = record {
+  processor = booted code entry;
+  replies = replies;
+  trace = [];
+  committed = 0;
+}
 
 -- the run of at most n instructions from boot: it stands still where a cause halts it or a reply is missing
 abbrev pub isa : List ℕ → ℕ → List ℕ → ℕ → RunState
@@ -47,7 +52,8 @@ ending_before (Halted cause) = EndsHalted cause
 -- how a run ends that was to commit at most n instructions: it is still running exactly where it committed n, whatever the next one is
 abbrev pub ending_after : List ℕ → ℕ → RunState → Ending
 ending_after code n s =
-    if s.committed == n then Running else ending_before (next_answer code (slice_get s.replies 0) s.processor)
+    if s.committed == n then Running
+    else ending_before (next_answer code (slice_get s.replies 0) s.processor)
 
 -- how the run of at most n instructions from boot ends
 abbrev pub isa_ending : List ℕ → ℕ → List ℕ → ℕ → Ending

@@ -22,7 +22,12 @@ pub record RunState : Type 0 where
 
 -- a run with these replies behind those that are left
 abbrev pub with_more : List ℕ → RunState → RunState
-with_more more s = record { processor = s.processor; replies = s.replies ++ more; trace = s.trace; committed = s.committed }
+with_more more s = record {
+  processor = s.processor;
+  replies = s.replies ++ more;
+  trace = s.trace;
+  committed = s.committed;
+}
 
 -- what contracts see in an `Isa`: its code, its pc, the registers from x0 on, and RAM from address 0 on
 pub record IsaContent : Type 0 where

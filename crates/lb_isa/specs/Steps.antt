@@ -13,7 +13,9 @@ use Rattle.lb_isa.specs.Runs.{ending_before}
 
 -- the outcome of this instruction at the processor's pc
 abbrev pub instruction_outcome : List ℕ → ProcessorState → Instr → Executed
-instruction_outcome code p i = outcome_of (4 * length code) i p.pc (effect i p.pc (p.registers (sources i).0) (p.registers (sources i).1))
+instruction_outcome code p i =
+    outcome_of (4 * length code) i p.pc
+    (effect i p.pc (p.registers (sources i).0) (p.registers (sources i).1))
 
 -- a run moves on by one instruction, or stands still with this ending
 abbrev pub Advances : List ℕ → RunState → RunState → Option Ending → Type 0
@@ -31,7 +33,12 @@ pub record RunnerContent : Type 0 where
 
 -- the run that it is
 abbrev pub run_of : RunnerContent → RunState
-run_of r = record { processor = processor_of r.isa; replies = r.replies; trace = r.trace; committed = r.committed }
+run_of r = record {
+  processor = processor_of r.isa;
+  replies = r.replies;
+  trace = r.trace;
+  committed = r.committed;
+}
 
 -- what it did, where it ends so
 abbrev pub ended_run : RunnerContent → Ending → IsaRun
