@@ -16,7 +16,8 @@ use Rattle.lb_isa.specs.State.{IsaContent, ProcessorState, RunState, processor_o
 -- the outcome of the word at the processor's pc, if one stands there
 abbrev pub outcome_at : List ℕ → ProcessorState → Option ℕ → Executed
 outcome_at code p word =
-    executed (4 * length code) p.pc word (instruction_in word) (p.registers (left_source (instruction_in word)))
+    executed (4 * length code) p.pc word (instruction_in word)
+    (p.registers (left_source (instruction_in word)))
     (p.registers (right_source (instruction_in word)))
 
 -- the outcome of the next instruction; fetch reads the code as loaded
@@ -40,9 +41,11 @@ goes_on next registers ram = record { pc = next; registers = registers; ram = ra
 -- the processor after an outcome, where the next instruction stands at this address: nothing changes where it halts or a reply is missing
 abbrev pub after : Outcome → ℕ → Option ℕ → ProcessorState → ProcessorState
 after (Plain rd v) next reply p = goes_on next (with_register rd v p.registers) p.ram
-after (Load i a false served) next reply p = goes_on next (with_register (destination i) (loaded i a p.ram) p.registers) p.ram
+after (Load i a false served) next reply p =
+    goes_on next (with_register (destination i) (loaded i a p.ram) p.registers) p.ram
 after (Load i a true served) next None p = p
-after (Load i a true served) next (Some v) p = goes_on next (with_register (destination i) v p.registers) p.ram
+after (Load i a true served) next (Some v) p =
+    goes_on next (with_register (destination i) v p.registers) p.ram
 after (Store i a v false served) next reply p = goes_on next p.registers (stored i a v p.ram)
 after (Store i a v true served) next reply p = goes_on next p.registers p.ram
 after (Halt cause) next reply p = p
@@ -61,17 +64,33 @@ after_step reply m = next_processor m.code reply (processor_of m)
 
 -- a run whose next step answers so and leads to this processor: none where it commits nothing; a read takes a reply
 abbrev pub moved : Stepped → ProcessorState → RunState → Option RunState
-moved (Committed None) p s = Some (record { processor = p; replies = s.replies; trace = s.trace; committed = s.committed + 1 })
+moved (Committed None) p s = Some (record {
+  processor = p;
+  replies = s.replies;
+  trace = s.trace;
+  committed = s.committed + 1;
+})
 moved (Committed (Some (Ld a v))) p s =
-    Some (record { processor = p; replies = drop 1 s.replies; trace = s.trace ++ Ld a v ∷ []; committed = s.committed + 1 })
+    Some (record {
+      processor = p;
+      replies = drop 1 s.replies;
+      trace = s.trace ++ Ld a v ∷ [];
+      committed = s.committed + 1;
+    })
 moved (Committed (Some (St a v))) p s =
-    Some (record { processor = p; replies = s.replies; trace = s.trace ++ St a v ∷ []; committed = s.committed + 1 })
+    Some (record {
+      processor = p;
+      replies = s.replies;
+      trace = s.trace ++ St a v ∷ [];
+      committed = s.committed + 1;
+    })
 moved WantsReply p s = None
 moved (Halted cause) p s = None
 
 -- a run after an outcome
 abbrev pub commit : Outcome → ℕ → RunState → Option RunState
-commit o next s = moved (answer o (slice_get s.replies 0)) (after o next (slice_get s.replies 0) s.processor) s
+commit o next s =
+    moved (answer o (slice_get s.replies 0)) (after o next (slice_get s.replies 0) s.processor) s
 
 -- a run after one more instruction of the code; none where it stands still
 abbrev pub move : List ℕ → RunState → Option RunState
