@@ -146,7 +146,8 @@ pub fn run(
 ) -> Result<IsaRun, AllocError>
     requires { IsBootable code.now entry }
     ensures trace { IfOk result (λ run. run.trace ≡ (isa code.now entry replies.now limit).trace) }
-    ensures committed { IfOk result (λ run. run.committed ≡ commits code.now entry replies.now limit) }
+    ensures committed { IfOk result (λ run.
+        run.committed ≡ commits code.now entry replies.now limit) }
     ensures ending { IfOk result (λ run. run.ending ≡ isa_ending code.now entry replies.now limit) }
 {
     let mut runner = Runner::boot(alloc, code, entry, replies)?;
