@@ -13,5 +13,6 @@ pub struct FrameLayout {
 /// A frame for each function, in text order.
 #[derive(Debug, Drop)]
 pub struct Layout {
+    /// As many as the program has functions.
     pub frames: Items<FrameLayout>,
 }

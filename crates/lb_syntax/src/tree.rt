@@ -40,8 +40,11 @@ pub enum Op {
 /// How many bytes a load or a store moves: 1, 2 or 4.
 #[derive(Clone, Copy, Debug, PartialEq, Eq)]
 pub enum Width {
+    /// One byte.
     One,
+    /// Two bytes.
     Two,
+    /// Four bytes.
     Four,
 }
 
@@ -130,20 +133,26 @@ pub enum Cmd {
 #[cycle(cmd)]
 #[derive(Drop)]
 pub struct Block {
+    /// In the order in which they run.
     pub commands: Items<Cmd>,
 }
 
 /// A function: its parameters are set when it starts, its results are read when it ends.
 #[derive(Drop)]
 pub struct Function {
+    /// What a call names it by.
     pub name: Name,
+    /// The variables that hold a call's arguments, in their order.
     pub params: Items<Name>,
+    /// The variables whose values a call's targets get, in their order.
     pub results: Items<Name>,
+    /// What it runs.
     pub body: Block,
 }
 
 /// A program, its functions in text order.
 #[derive(Drop)]
 pub struct Program {
+    /// In text order, of any number.
     pub functions: Items<Function>,
 }
