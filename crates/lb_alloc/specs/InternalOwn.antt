@@ -1,5 +1,6 @@
 -- A place of its own for each variable.
 use Rattle.std.specs.Prelude.{◌≡◌, ℕ, ◌+◌, ◌-◌, ◌<◌, ◌≤◌, nat_lt, if◌then◌else◌, List, [], ◌∷◌, get_or, All}
+use Rattle.lb_flat.specs.declared.registers.TheConstants.{FIRST_VARIABLE_REGISTER}
 use Rattle.lb_flat.specs.declared.places.Place.{Place}
 use Rattle.lb_flat.specs.declared.places.Place.TheVariants.{Register, Slot}
 use Rattle.lb_flat.specs.declared.places.FunctionPlaces.{FunctionPlaces}
@@ -7,10 +8,11 @@ use Rattle.lb_flat.specs.declared.flat.FlatFunction.{FlatFunction}
 use Rattle.lb_flat.specs.Flat.{flat_routine}
 use Rattle.lb_flat.specs.Accepted.{AreAccepted}
 use Rattle.lb_flat.specs.Order.{IsInRegister}
+use Rattle.lb_alloc.specs.declared.allocation.TheConstants.{VARIABLE_REGISTERS}
 
 -- a register for each of the first twelve, a slot for each further one
 abbrev pub own_place : ℕ → Place
-own_place x = if nat_lt x 12 then Register (18 + x) else Slot (x - 12)
+own_place x = if nat_lt x VARIABLE_REGISTERS then Register (FIRST_VARIABLE_REGISTER + x) else Slot (x - VARIABLE_REGISTERS)
 
 -- such a place for each of so many
 abbrev pub AreOwnPlaces : ℕ → List Place → Type 0

@@ -9,12 +9,15 @@ ghost use Rattle.lb_alloc.specs.InternalOwn.{own_place, AreOwnPlaces, IsServed, 
 
 use crate::judgement::accepts_function;
 use crate::proposal::propose;
-use lb_flat::{FIRST_VARIABLE_REGISTER, FlatFunction, FlatProgram, FunctionPlaces, Place, Places};
+use lb_flat::{
+    FIRST_VARIABLE_REGISTER, FlatFunction, FlatProgram, FunctionPlaces, LAST_VARIABLE_REGISTER,
+    Place, Places,
+};
 use sqlite_items::Items;
 use std::alloc::{AllocError, Global};
 
 /// How many registers there are for variables.
-pub const VARIABLE_REGISTERS: u32 = 12;
+pub const VARIABLE_REGISTERS: u32 = (LAST_VARIABLE_REGISTER - FIRST_VARIABLE_REGISTER + 1) as u32;
 
 // How many variables a function has at most for which better places are proposed than places of
 // their own: an interference graph takes a truth value for each pair.
