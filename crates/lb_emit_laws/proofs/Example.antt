@@ -1,13 +1,14 @@
 -- A placed program in order whose greatest frame has 32,768 bytes, so that the law says something: its code is there.
-use Rattle.std.proofs.Common.{◌≡◌, ℕ, zero, suc, ◌≤◌, List, [], ◌∷◌, refl, sym, subst, arith, inl, inr, All, Contains, slice_get}
+use Rattle.std.proofs.Common.{◌≡◌, ℕ, zero, suc, ◌≤◌, List, [], ◌∷◌, refl, sym, arith, inl, inr, All, Contains, slice_get}
 use Rattle.std.proofs.lemmas.List.Elements.{All-nil, All-cons}
 use Rattle.lb_syntax.specs.declared.tree.Width.TheVariants.{Four}
 use Rattle.lb_syntax.specs.Rules.{IsBlockSize}
 use Rattle.lb_flat.specs.declared.places.Place.{Place}
 use Rattle.lb_flat.specs.declared.places.Place.TheVariants.{Register, Slot}
 use Rattle.lb_flat.specs.Code.{Constant, Copy, Store, Call, Plain, Reserve, Loop, Nothing, chain, Routine, Executable}
-use Rattle.lb_flat.specs.Calls.{callees_of, frame_of, IsCallPath, IsRecursive, path_need}
+use Rattle.lb_flat.specs.Calls.{callees_of, frame_of, IsCallPath, path_need}
 use Rattle.lb_flat.specs.Order.{KeepsRoutineRules, IsPlacedName, IsInRegister, IsPlacedCode, IsPlacedInOrder}
+use Rattle.lb_flat.proofs.CallPathLemmas.{calls_none, only_one_call, not_recursive}
 use Rattle.lb_emit_laws.specs.Frames.{layout_of}
 use Rattle.lb_emit_laws.specs.Code.{program_words, program_entry}
 use Rattle.lb_emit_laws.specs.Correct.{IsCodeOf}
@@ -102,30 +103,15 @@ forms =
 
 -- ---- calls
 
-calls_none : (g h : ℕ) → callees_of (slice_get functions g) ≡ [] → Contains (callees_of (slice_get functions g)) h → ⊥
-calls_none g h e c = empty (subst (λ (l : List ℕ). Contains l h) e c)
-  where
-    empty : Contains [] h → ⊥
-    empty k = absurd (omega (arith, k.1))
-
 only_third : (g h : ℕ) → Contains (callees_of (slice_get functions g)) h → h ≡ 2
 only_third zero h c = is c
   where
     is : Contains (2 ∷ []) h → h ≡ 2
     is (zero, lt, e) = sym e
     is (suc k, lt, e) = absurd (omega (arith, lt))
-only_third (suc zero) h c = absurd (calls_none 1 h refl c)
-only_third (suc (suc zero)) h c = absurd (calls_none 2 h refl c)
-only_third (suc (suc (suc g))) h c = absurd (calls_none (suc (suc (suc g))) h refl c)
-
--- so no path is longer than one call
-not_from_third : (g h : ℕ) → g ≡ 2 → Contains (callees_of (slice_get functions g)) h → ⊥
-not_from_third g h e c = calls_none 2 h refl (subst (λ (k : ℕ). Contains (callees_of (slice_get functions k)) h) e c)
-
-not_recursive : (g : ℕ) → IsRecursive functions g → ⊥
-not_recursive g ([], k) = not_from_third g g (only_third g g k.1) k.1
-not_recursive g (h ∷ [], k) = not_from_third h g (only_third g h k.1) k.2.1
-not_recursive g (h ∷ i ∷ path, k) = not_from_third h i (only_third g h k.1) k.2.1
+only_third (suc zero) h c = absurd (calls_none functions 1 h refl c)
+only_third (suc (suc zero)) h c = absurd (calls_none functions 2 h refl c)
+only_third (suc (suc (suc g))) h c = absurd (calls_none functions (suc (suc (suc g))) h refl c)
 
 frame_at_most : (g : ℕ) → frame_of (slice_get functions g) ≤ 32768
 frame_at_most zero = omega arith
@@ -137,7 +123,7 @@ shallow : (path : List ℕ) → IsCallPath functions path → path_need function
 shallow [] k = omega arith
 shallow (g ∷ []) k = omega (arith, frame_at_most g)
 shallow (g ∷ h ∷ []) k = omega (arith, frame_at_most g, frame_at_most h)
-shallow (g ∷ h ∷ i ∷ path) k = absurd (not_from_third h i (only_third g h k.1) k.2.1)
+shallow (g ∷ h ∷ i ∷ path) k = absurd (only_one_call Place functions 2 refl only_third g h i k.1 k.2.1)
 
 -- ---- the program
 
@@ -153,7 +139,7 @@ in_order = record {
     init = (refl, refl);
     again = (refl, refl);
     routines = all_keep;
-    no_recursion = λ g lt r. not_recursive g r;
+    no_recursion = λ g lt r. not_recursive Place functions 2 refl only_third g r;
     code = omega arith;
     stack = shallow;
   };
