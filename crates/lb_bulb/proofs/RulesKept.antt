@@ -1,16 +1,14 @@
 -- The supplied program keeps the rules.
-use Rattle.std.proofs.Common.{◌≡◌, ℕ, zero, suc, ◌+◌, ◌*◌, ◌≤◌, ◌<◌, inl, inr, Bool, true, false, List, [], ◌∷◌, ◌++◌, length, map, Contains, refl, sym, ◌∙◌, subst, arith, codes, slice_index_or}
+use Rattle.std.proofs.Common.{◌≡◌, ℕ, ◌+◌, ◌*◌, ◌≤◌, ◌<◌, Bool, true, false, List, [], ◌∷◌, ◌++◌, map, Contains, refl, subst, arith, codes, slice_index_or}
 use Rattle.std.specs.Str.{bytes_eq}
-use Rattle.std.proofs.lemmas.Slice.Eq.{bytes_eq-Decides}
 use Rattle.std.proofs.lemmas.List.Elements.{All-from_recursion}
-use Rattle.std.proofs.lemmas.List.Sums.{sum_by-cons}
 use Rattle.lb_memory.specs.declared.TheConstants.{MOST_STACK}
 use Rattle.lb_syntax.specs.declared.limits.TheConstants.{MOST_FRAME}
 use Rattle.lb_syntax.specs.Names.{Text, AreDistinct, is_among}
 use Rattle.lb_syntax.specs.Tree.{Term, Procedure}
 use Rattle.lb_syntax.specs.Needs.{sites, frame_need, procedure_words, code_need, IsWithinLimits}
 use Rattle.lb_syntax.specs.Calls.{CallSite, call_sites, access_sites, callees, IsCallPath, IsRecursive, path_need}
-use Rattle.lb_syntax.specs.Rules.{function_names, IsEntry, HasEntryShape, IsBlockSize, Fits, IsGoodCall, IsGoodAccess, KeepsFunctionRules, KeepsRules}
+use Rattle.lb_syntax.specs.Rules.{function_names, IsBlockSize, Fits, IsGoodCall, IsGoodAccess, KeepsFunctionRules, KeepsRules}
 use Rattle.lb_builders.proofs.ProgramLemmas.{Within, here, later, is_within, other_name, no_entry, sum_more}
 use Rattle.lb_bulb.specs.Supplied.{supplied, spi_xchg, lan_read, lan_write, xchg_procedure, read_procedure, write_procedure, init_procedure, loop_procedure}
 

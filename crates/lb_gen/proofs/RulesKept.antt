@@ -1,6 +1,5 @@
 -- The program keeps the rules, whatever is drawn.
-use Rattle.std.proofs.Common.{◌≡◌, ℕ, zero, suc, ◌<◌, ◌≤◌, inl, inr, Bool, true, false, not, ◌&&◌, List, [], ◌∷◌, length, Contains, All, refl, subst, arith, codes}
-use Rattle.std.specs.Str.{bytes_eq}
+use Rattle.std.proofs.Common.{◌≡◌, ℕ, zero, suc, ◌<◌, ◌≤◌, Bool, true, false, not, ◌&&◌, List, [], ◌∷◌, length, Contains, All, refl, subst, arith}
 use Rattle.std.specs.Fmt.{digits}
 use Rattle.std.proofs.lemmas.List.Elements.{All-from_recursion, All-contains_itself}
 use Rattle.lb_syntax.specs.declared.limits.TheConstants.{MOST_FRAME}
@@ -8,11 +7,11 @@ use Rattle.lb_syntax.specs.Names.{Text, AreDistinct, is_among}
 use Rattle.lb_syntax.specs.Tree.{Term, Procedure}
 use Rattle.lb_syntax.specs.Needs.{sites, frame_need, code_need, IsWithinLimits}
 use Rattle.lb_syntax.specs.Calls.{CallSite, call_sites, access_sites, path_need}
-use Rattle.lb_syntax.specs.Rules.{function_names, IsEntry, HasEntryShape, IsBlockSize, Fits, IsGoodCall, IsGoodAccess, KeepsFunctionRules, KeepsRules}
+use Rattle.lb_syntax.specs.Rules.{function_names, IsBlockSize, Fits, IsGoodCall, IsGoodAccess, KeepsFunctionRules, KeepsRules}
 use Rattle.lb_gen.specs.Made.{r_, function_name, numbered_function, init_function, loop_function, made}
 use Rattle.lb_gen.specs.Laws.{IsLarge}
 use Rattle.lb_gen.proofs.NameLemmas.{both}
-use Rattle.lb_builders.proofs.ProgramLemmas.{contained, is_within, mapped, other_name, no_entry}
+use Rattle.lb_builders.proofs.ProgramLemmas.{contained, is_within, mapped, no_entry}
 use Rattle.lb_gen.proofs.Members.{whole, Member, numbered, starts, goes_on, member, has_numbered, has_init, has_loop, by_name}
 use Rattle.lb_gen.proofs.CallLemmas.{never_back, init_never_back, loop_never_back, frame_is, path_most, stack_is}
 
