@@ -389,15 +389,14 @@ fn switches_the_lamp_on(rt: HostRuntime) -> Result<(), Fail> {
     Ok(())
 }
 
-// In as many events the same frame without its mark switches the lamp on.
 #[test]
 fn leaves_the_lamp_off(rt: HostRuntime) -> Result<(), Fail> {
     let marked = format!(in rt.alloc(); "!{ON}")?;
-    for a in both(&rt, rt.alloc(), "lamp --events 2000000", marked.as_bytes())? {
+    for a in both(&rt, rt.alloc(), "lamp", marked.as_bytes())? {
         assert!(rt;
             lights(
                 &a,
-                &["events 2000000", "arrived 1", "lamp off", "switches 0"]
+                &["events 400000", "arrived 1", "lamp off", "switches 0"]
             )
         );
     }
