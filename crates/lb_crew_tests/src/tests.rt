@@ -90,7 +90,7 @@ fn one_worker_fires_what_is_drawn(rt: HostRuntime) -> Result<(), Fail> {
     assert!(rt; is_whole_alone(alloc, size, 7)?);
     let count = Count::new();
     assert!(rt; is_drawn(&rt, alloc, &count, size, 7)?);
-    assert_eq!(rt; count.others(), 0);
+    assert!(rt; !count.has_others());
     assert!(rt; count.in_order() > 2000);
     assert!(rt; !are_alike(alloc, size.events, 8, 7)?);
     assert!(rt; stops_after(alloc, size, 7, 5)?);
@@ -128,7 +128,7 @@ fn two_workers_race(rt: HostRuntime) -> Result<(), Fail> {
     };
     let gate = Alternation::new();
     let sharing = share(&rt, rt.alloc(), &gate, size)?;
-    assert!(rt; !gate.gave_up());
+    assert!(rt; gate.held_both());
     assert!(rt; sharing.has_first);
     assert!(rt; sharing.has_second);
     assert_eq!(rt; sharing.is_whole, Ok(true));

@@ -8,8 +8,9 @@ const HELD_TURNS: u64 = 100;
 /// How often a held worker looks before it goes on.
 const MOST_LOOKS: u64 = 100_000_000;
 
-/// A gate that makes two workers take turns: worker 0 is held at turn t until worker 1 has come to turn t, and worker 1
-/// until worker 0 has come to turn t + 1. Once a hold has lasted too long, nobody is held any more.
+/// A gate that makes two workers take turns in their first 100 turns each: worker 0 is held at turn t until worker 1 has
+/// come to turn t, and worker 1 until worker 0 has come to turn t + 1. Once a hold has lasted too long, nobody is held
+/// any more.
 #[derive(Drop)]
 pub struct Alternation {
     of_first: AtomicU64,
@@ -27,8 +28,15 @@ impl Alternation {
         }
     }
 
-    /// Whether a hold has lasted too long.
-    pub fn gave_up(&self) -> bool {
+    /// Whether both workers came to all turns that are held, and no hold lasted too long.
+    pub fn held_both(&self) -> bool {
+        self.of_first.load(Ordering::SeqCst) >= HELD_TURNS
+            && self.of_second.load(Ordering::SeqCst) >= HELD_TURNS
+            && !self.gave_up()
+    }
+
+    // Whether a hold has lasted too long.
+    fn gave_up(&self) -> bool {
         self.gave_up.load(Ordering::SeqCst) != 0
     }
 
@@ -61,7 +69,7 @@ impl Gate for Alternation {
     }
 }
 
-/// A gate that counts the calls of worker 0 that come in their order, and all others.
+/// A gate that counts the calls of worker 0 that come in their order, and notes whether another came.
 #[derive(Drop)]
 pub struct Count {
     in_order: AtomicU64,
@@ -82,9 +90,9 @@ impl Count {
         self.in_order.load(Ordering::SeqCst)
     }
 
-    /// How many others came.
-    pub fn others(&self) -> u64 {
-        self.others.load(Ordering::SeqCst)
+    /// Whether another came.
+    pub fn has_others(&self) -> bool {
+        self.others.load(Ordering::SeqCst) != 0
     }
 }
 

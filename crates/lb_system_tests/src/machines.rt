@@ -281,12 +281,12 @@ fn race<R: Threads + Wait + Sync>(
     })
 }
 
-// Each of the workers that are asked for has a thread of its own, and passes the caller's gate.
+// Both workers have threads of their own, and pass the caller's gate.
 #[test]
 fn two_workers_race(rt: HostRuntime) -> Result<(), Fail> {
     let gate = Alternation::new();
     let race = race(&rt, rt.alloc(), &gate)?;
-    assert!(rt; !gate.gave_up());
+    assert!(rt; gate.held_both());
     assert_eq!(rt; race.status, 0);
     assert!(rt; race.of_first > 0);
     assert!(rt; race.of_second > 0);

@@ -88,7 +88,7 @@ fn refuses_frames(alloc: Global, part: &str, many: usize, line: &str) -> Result<
 
 // 64 frames of a byte, one frame of 2,000 bytes, and one more of each.
 #[test]
-fn takes_64_frames_of_2000_bytes(rt: HostRuntime) -> Result<(), Fail> {
+fn takes_64_frames_and_2000_bytes(rt: HostRuntime) -> Result<(), Fail> {
     assert!(rt; takes_frames(rt.alloc(), "00\n", 64)?);
     assert!(rt; refuses_frames(rt.alloc(), "00\n", 65, "line 67 too-many\n")?);
     assert!(rt; takes_frames(rt.alloc(), "00", 2000)?);
