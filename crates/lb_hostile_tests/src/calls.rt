@@ -1,7 +1,7 @@
 // Calls of the whole program, of which the status and the bytes alone are kept.
 use crate::ports::{SlowSink, SlowSource, Stop};
 use lb_system::{Ended, plain};
-use lb_testkit::call::{Call, call_plain, whole};
+use lb_testkit::call::{Call, call_plain, whole, words_of_line};
 use std::alloc::{AllocError, Global};
 
 /// What is asked for: the words behind the program's name, with a blank between them, and an input.
@@ -38,7 +38,7 @@ pub struct Counted {
 
 /// The call with ports that take and give all at once, and never fail.
 pub fn ample(alloc: Global, asked: Asked<'_>) -> Result<Told, AllocError> {
-    let words = words_of(alloc, asked.line)?;
+    let words = words_of_line(alloc, asked.line)?;
     let call = Call {
         room: 1_000_000,
         ..whole(&words, asked.input)
@@ -69,17 +69,7 @@ fn status_of(ended: &Ended) -> u8 {
     ended.status
 }
 
-// The words, behind the program's name.
-fn words_of<'a>(alloc: Global, line: &'a str) -> Result<Vec<&'a str>, AllocError> {
-    let mut words = Vec::new(alloc);
-    words.push("bulb")?;
-    for word in line.split(' ') {
-        words.push(word)?;
-    }
-    Ok(words)
-}
-
-// The same, as the program gets them.
+// The words behind the program's name, as the program gets them.
 fn owned_words(alloc: Global, line: &str) -> Result<Vec<String>, AllocError> {
     let mut words = Vec::new(alloc);
     words.push(String::from_str(alloc, "bulb")?)?;

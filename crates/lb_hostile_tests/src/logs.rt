@@ -1,5 +1,6 @@
 // A log that was printed by a run and is cut at each byte.
 use crate::calls::{Asked, Told, ample};
+use lb_testkit::call::log_of_report;
 use std::alloc::{AllocError, Global};
 use std::process::Abort;
 use std::test::Fail;
@@ -41,16 +42,6 @@ fn replay(alloc: Global, log: &[u8]) -> Result<Told, AllocError> {
     )
 }
 
-// The log in a report.
-fn log_of(report: &[u8]) -> &[u8] {
-    for place in 0..report.len() {
-        if let Some(log) = report[place..].strip_prefix(b"\nlog\n".as_slice()) {
-            return log;
-        }
-    }
-    b""
-}
-
 // Asserts that these entries are replayed to the report of a run of as many.
 fn replays(rt: &impl Abort, alloc: Global, log: &[u8], entries: usize) -> Result<(), AllocError> {
     // Each 32 entries stand in a line.
@@ -69,7 +60,7 @@ fn replays(rt: &impl Abort, alloc: Global, log: &[u8], entries: usize) -> Result
 #[test]
 fn replays_a_log_cut_at_each_entry(rt: HostRuntime) -> Result<(), Fail> {
     let whole = run(rt.alloc(), ENTRIES)?;
-    let log = log_of(&whole.written);
+    let log = log_of_report(&whole.written);
     assert_eq!(rt; log.len(), 407);
     for entries in 0..ENTRIES + 1 {
         replays(&rt, rt.alloc(), log, entries)?;
@@ -81,7 +72,7 @@ fn replays_a_log_cut_at_each_entry(rt: HostRuntime) -> Result<(), Fail> {
 #[test]
 fn refuses_a_log_cut_in_an_entry(rt: HostRuntime) -> Result<(), Fail> {
     let whole = run(rt.alloc(), ENTRIES)?;
-    let log = log_of(&whole.written);
+    let log = log_of_report(&whole.written);
     for entries in 0..ENTRIES {
         let length = (entries * 2 + entries / 32 + 1).min(log.len());
         let told = replay(rt.alloc(), &log[..length])?;

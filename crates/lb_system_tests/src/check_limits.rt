@@ -1,5 +1,5 @@
 // Programs at the limits, and one past each.
-use lb_testkit::call::{Call, call_plain, whole};
+use lb_testkit::call::{Call, ends, whole};
 use std::alloc::{AllocError, Global};
 use std::test::Fail;
 
@@ -53,8 +53,7 @@ fn answers(alloc: Global, text: &[u8], status: u8, line: &str) -> Result<bool, A
         piece: 1_000_000,
         ..whole(&CHECK, text)
     };
-    let a = call_plain(alloc, &call)?;
-    Ok(a.status == status && a.written.as_slice() == line.as_bytes())
+    ends(alloc, &call, status, line.as_bytes())
 }
 
 #[test]

@@ -1,6 +1,6 @@
 // What `check` tells: what a program asks for, the first rule that it breaks, or the place where its text fails.
 use lb_bulb::source;
-use lb_testkit::call::{Call, call_plain, whole};
+use lb_testkit::call::{Call, call_plain, ends, whole};
 use std::alloc::{AllocError, Global};
 use std::test::Fail;
 
@@ -155,7 +155,7 @@ const TEXTS: [(&str, &str); 15] = [
 // Whether `check` tells this line of the input, and ends so, without an image.
 fn tells(alloc: Global, input: &[u8], status: u8, line: &str) -> Result<bool, AllocError> {
     let a = call_plain(alloc, &whole(&CHECK, input))?;
-    Ok(a.status == status && a.written.as_slice() == line.as_bytes() && !a.has_image)
+    Ok(a.is(status, line.as_bytes()) && !a.has_image)
 }
 
 #[test]
@@ -185,22 +185,16 @@ fn tells_reads_and_writes_that_fail(rt: HostRuntime) -> Result<(), Fail> {
         read_fails: &[0],
         ..whole(&CHECK, EMPTY)
     };
-    let a = call_plain(rt.alloc(), &unread)?;
-    assert_eq!(rt; a.status, 6);
-    assert!(rt; a.written.as_slice() == b"read fault\n".as_slice());
+    assert!(rt; ends(rt.alloc(), &unread, 6, b"read fault\n")?);
     let unwritten = Call {
         write_fails: &[0],
         ..whole(&CHECK, EMPTY)
     };
-    let b = call_plain(rt.alloc(), &unwritten)?;
-    assert_eq!(rt; b.status, 7);
-    assert!(rt; b.written.is_empty());
+    assert!(rt; ends(rt.alloc(), &unwritten, 7, b"")?);
     let cut = Call {
         room: 9,
         ..whole(&CHECK, b"fn init() { }")
     };
-    let c = call_plain(rt.alloc(), &cut)?;
-    assert_eq!(rt; c.status, 3);
-    assert!(rt; c.written.as_slice() == b"check no-".as_slice());
+    assert!(rt; ends(rt.alloc(), &cut, 3, b"check no-")?);
     Ok(())
 }

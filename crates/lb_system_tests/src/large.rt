@@ -1,6 +1,6 @@
 // The mode `gen`, and what other modes say of the same programs.
 use lb_gen::large_program;
-use lb_testkit::call::{call_plain, whole};
+use lb_testkit::call::{Call, call_plain, whole, words_of_line};
 use lb_text::print_program;
 use std::alloc::{AllocError, Global};
 use std::test::Fail;
@@ -21,37 +21,39 @@ const ROWS: [(&str, u32); 7] = [
     ("gen --seed 2654435769", 2_654_435_769),
 ];
 
+// Whether the words make the large program of the seed. The mode reads nothing, so no read can fail.
+fn makes(alloc: Global, line: &str, seed: u32) -> Result<bool, AllocError> {
+    let words = words_of_line(alloc, line)?;
+    let call = Call {
+        read_fails: &[0],
+        ..whole(&words, b"%%\n")
+    };
+    let answer = call_plain(alloc, &call)?;
+    let expected = format!(in alloc; "seed {seed}\n{LINES}")?;
+    Ok(answer.is(0, expected.as_bytes()) && answer.has_image)
+}
+
 #[test]
 fn makes_large_programs(rt: HostRuntime) -> Result<(), Fail> {
     for (line, seed) in ROWS {
-        let mut words = Vec::new(rt.alloc());
-        words.push("bulb")?;
-        for word in line.split(' ') {
-            words.push(word)?;
-        }
-        // it reads nothing, so no read can fail
-        let mut call = whole(&words, b"%%\n");
-        call.read_fails = &[0];
-        let answer = call_plain(rt.alloc(), &call)?;
-        let expected = format!(in rt.alloc(); "seed {seed}\n{LINES}")?;
-        assert_eq!(rt; answer.status, 0, "of {line}");
-        assert!(rt;
-            answer.written.as_slice() == expected.as_bytes(),
-            "of {line}"
-        );
-        assert!(rt; answer.has_image, "of {line}");
+        assert!(rt; makes(rt.alloc(), line, seed)?, "of {line}");
     }
     Ok(())
 }
 
+// Whether a report that isn't written at all is told by the status, and the image shown.
+fn is_unwritten(alloc: Global) -> Result<bool, AllocError> {
+    let call = Call {
+        write_fails: &[0],
+        ..whole(&["bulb", "gen"], b"")
+    };
+    let answer = call_plain(alloc, &call)?;
+    Ok(answer.is(7, b"") && answer.has_image)
+}
+
 #[test]
 fn a_write_of_gen_fails(rt: HostRuntime) -> Result<(), Fail> {
-    let mut call = whole(&["bulb", "gen"], b"");
-    call.write_fails = &[0];
-    let answer = call_plain(rt.alloc(), &call)?;
-    assert_eq!(rt; answer.status, 7);
-    assert!(rt; answer.written.is_empty());
-    assert!(rt; answer.has_image);
+    assert!(rt; is_unwritten(rt.alloc())?);
     Ok(())
 }
 

@@ -20,7 +20,7 @@ const MARK: &[u8] = b"LBIM\x01\x00\x00\x00\x01\x00\x00\x00\x00\x00\x00\x00\x00\x
 // What `list` answers to an input is this status and this text.
 fn answers(alloc: Global, input: &[u8], status: u8, text: &str) -> Result<bool, AllocError> {
     let a = call_plain(alloc, &whole(&LIST, input))?;
-    Ok(a.status == status && a.written.as_slice() == text.as_bytes() && !a.has_image)
+    Ok(a.is(status, text.as_bytes()) && !a.has_image)
 }
 
 #[test]
@@ -52,22 +52,37 @@ fn lists_images(rt: HostRuntime) -> Result<(), Fail> {
     Ok(())
 }
 
+// Whether `list` refuses the bytes with one more behind them.
+fn refuses_more(alloc: Global, bytes: &[u8], line: &str) -> Result<bool, AllocError> {
+    let mut more = Vec::from_slice(alloc, bytes)?;
+    more.push(b'\n')?;
+    answers(alloc, &more, 5, line)
+}
+
+// Whether `list` refuses the bytes with another one at a place.
+fn refuses_changed(
+    alloc: Global,
+    bytes: &[u8],
+    place: usize,
+    byte: u8,
+    line: &str,
+) -> Result<bool, AllocError> {
+    let mut changed = Vec::from_slice(alloc, bytes)?;
+    if let Some(old) = changed.get_mut(place) {
+        *old = byte;
+    }
+    answers(alloc, &changed, 5, line)
+}
+
 #[test]
 fn tells_where_an_image_fails(rt: HostRuntime) -> Result<(), Fail> {
-    assert!(rt; answers(rt.alloc(), &JUMP[..23], 5, "image at 23 truncated\n")?);
-    assert!(rt; answers(rt.alloc(), &JUMP[..4], 5, "image at 4 truncated\n")?);
-    let mut more = Vec::from_slice(rt.alloc(), JUMP)?;
-    more.push(b'\n')?;
-    assert!(rt; answers(rt.alloc(), &more, 5, "image at 24 extra\n")?);
-    let mut version = Vec::from_slice(rt.alloc(), JUMP)?;
-    version[4] = 9;
-    assert!(rt; answers(rt.alloc(), &version, 5, "image at 4 bad-version\n")?);
-    let mut entry = Vec::from_slice(rt.alloc(), JUMP)?;
-    entry[12] = 4;
-    assert!(rt; answers(rt.alloc(), &entry, 5, "image at 12 bad-code\n")?);
-    let mut size = Vec::from_slice(rt.alloc(), FRAMES)?;
-    size[20] = 2;
-    assert!(rt; answers(rt.alloc(), &size, 5, "image at 20 bad-layout\n")?);
+    let alloc = rt.alloc();
+    assert!(rt; answers(alloc, &JUMP[..23], 5, "image at 23 truncated\n")?);
+    assert!(rt; answers(alloc, &JUMP[..4], 5, "image at 4 truncated\n")?);
+    assert!(rt; refuses_more(alloc, JUMP, "image at 24 extra\n")?);
+    assert!(rt; refuses_changed(alloc, JUMP, 4, 9, "image at 4 bad-version\n")?);
+    assert!(rt; refuses_changed(alloc, JUMP, 12, 4, "image at 12 bad-code\n")?);
+    assert!(rt; refuses_changed(alloc, FRAMES, 20, 2, "image at 20 bad-layout\n")?);
     Ok(())
 }
 

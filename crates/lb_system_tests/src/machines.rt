@@ -1,9 +1,8 @@
 // The modes that run, replay and judge on the machine, and the lamp.
 use lb_gate_testkit::gates::Alternation;
 use lb_ports::OpenGate;
-use lb_testkit::call::{Answer, Call, call_bulb, call_plain, whole};
+use lb_testkit::call::{Answer, Call, call_bulb, call_plain, log_of_report, whole, words_of_line};
 use std::alloc::{AllocError, Global};
-use std::process::Abort;
 use std::sync::Wait;
 use std::test::Fail;
 use std::thread::Threads;
@@ -149,16 +148,6 @@ const HALTING: [(&str, &str); 3] = [
 
 const REPLAY: [&str; 4] = ["bulb", "replay", "--log", "--trace"];
 
-// The words of a line, with a blank between them, behind the program's name.
-fn words_of<'a>(alloc: Global, line: &'a str) -> Result<Vec<&'a str>, AllocError> {
-    let mut words = Vec::new(alloc);
-    words.push("bulb")?;
-    for word in line.split(' ') {
-        words.push(word)?;
-    }
-    Ok(words)
-}
-
 // A call with room for a report of a million bytes.
 fn call_of<'a>(words: &'a [&'a str], input: &'a [u8]) -> Call<'a> {
     Call {
@@ -167,18 +156,35 @@ fn call_of<'a>(words: &'a [&'a str], input: &'a [u8]) -> Call<'a> {
     }
 }
 
-// What `plain` and `bulb` answer.
-fn both<R: Threads + Wait + Sync>(
+// What `plain` answers to the words of a line.
+fn by_plain(alloc: Global, line: &str, input: &[u8]) -> Result<Answer, AllocError> {
+    let words = words_of_line(alloc, line)?;
+    call_plain(alloc, &call_of(&words, input))
+}
+
+// What `bulb` answers to the words of a line.
+fn by_bulb<R: Threads + Wait + Sync>(
     rt: &R,
     alloc: Global,
     line: &str,
     input: &[u8],
-) -> Result<[Answer; 2], AllocError> {
-    let words = words_of(alloc, line)?;
-    let call = call_of(&words, input);
-    let plain = call_plain(alloc, &call)?;
-    let raced = call_bulb(rt, alloc, &call, &OpenGate)?;
-    Ok([plain, raced])
+) -> Result<Answer, AllocError> {
+    let words = words_of_line(alloc, line)?;
+    call_bulb(rt, alloc, &call_of(&words, input), &OpenGate)
+}
+
+// Whether both answer so.
+fn both_are<R: Threads + Wait + Sync>(
+    rt: &R,
+    alloc: Global,
+    line: &str,
+    input: &str,
+    want: (u8, &str),
+) -> Result<bool, AllocError> {
+    let (status, written) = want;
+    let plain = by_plain(alloc, line, input.as_bytes())?.is(status, written.as_bytes());
+    let raced = by_bulb(rt, alloc, line, input.as_bytes())?.is(status, written.as_bytes());
+    Ok(plain && raced)
 }
 
 // Whether a report has this line.
@@ -206,53 +212,69 @@ fn number_of(report: &[u8], word: &str) -> u32 {
 #[test]
 fn answers_rows(rt: HostRuntime) -> Result<(), Fail> {
     for (line, input, status, written) in ROWS {
-        for a in both(&rt, rt.alloc(), line, input.as_bytes())? {
-            assert_eq!(rt; a.status, status, "of {line} {input}");
-            assert!(rt;
-                a.written.as_slice() == written.as_bytes(),
-                "written by {line} for {input}"
-            );
-        }
+        assert!(rt;
+            both_are(&rt, rt.alloc(), line, input, (status, written))?,
+            "of {line} {input}"
+        );
     }
     Ok(())
 }
 
+const SHORT_RUN: &str = "run --events 1000";
+
+const LONG_RUN: &str = "run --events 20000 --trace";
+
+// Whether it is a run of 1,000 entries without an access.
+fn does_nothing(a: &Answer) -> bool {
+    a.status == 0
+        && a.entries == 1000
+        && a.has_image
+        && a.written.starts_with(b"events 1000\ndone ")
+        && a.written
+            .ends_with(b"\nmmio 0\narrived 0\nlamp off\nend running\n")
+}
+
+// Whether it is a long run that stores 1 at the pins, at least twice, and does nothing else there.
+fn stores_ones(alloc: Global, a: &Answer) -> Result<bool, AllocError> {
+    let stores = number_of(&a.written, "mmio ");
+    let lines = "st 1001200c 00000001\n".repeat(alloc, stores as usize)?;
+    let end = format!(in alloc; "\nlamp off\nend running\ntrace\n{lines}")?;
+    Ok(
+        a.status == 0
+            && 2 <= stores
+            && 997 <= number_of(&a.written, "done ")
+            && a.written.ends_with(end.as_bytes()),
+    )
+}
+
+// Whether it is a long run that stores two quotients at the pins.
+fn divides(a: &Answer) -> bool {
+    997 <= number_of(&a.written, "done ")
+        && a.written.ends_with(
+            b"\nmmio 2\narrived 0\nlamp off\nend running\ntrace\nst 1001200c ffffffff\nst 1001200c 00000007\n",
+        )
+}
+
+// Whether `plain` runs the three programs so.
+fn plain_runs(alloc: Global) -> Result<bool, AllocError> {
+    let nothing = does_nothing(&by_plain(alloc, SHORT_RUN, EMPTY.as_bytes())?);
+    let ones = stores_ones(alloc, &by_plain(alloc, LONG_RUN, WRITES.as_bytes())?)?;
+    let quotients = divides(&by_plain(alloc, LONG_RUN, DIVIDES.as_bytes())?);
+    Ok(nothing && ones && quotients)
+}
+
+// Whether `bulb` does.
+fn bulb_runs<R: Threads + Wait + Sync>(rt: &R, alloc: Global) -> Result<bool, AllocError> {
+    let nothing = does_nothing(&by_bulb(rt, alloc, SHORT_RUN, EMPTY.as_bytes())?);
+    let ones = stores_ones(alloc, &by_bulb(rt, alloc, LONG_RUN, WRITES.as_bytes())?)?;
+    let quotients = divides(&by_bulb(rt, alloc, LONG_RUN, DIVIDES.as_bytes())?);
+    Ok(nothing && ones && quotients)
+}
+
 #[test]
 fn runs_programs(rt: HostRuntime) -> Result<(), Fail> {
-    for a in both(&rt, rt.alloc(), "run --events 1000", EMPTY.as_bytes())? {
-        assert_eq!(rt; (a.status, a.entries, a.has_image), (0, 1000, true));
-        assert!(rt; a.written.starts_with(b"events 1000\ndone "));
-        assert!(rt;
-            a.written
-                .ends_with(b"\nmmio 0\narrived 0\nlamp off\nend running\n")
-        );
-    }
-    for a in both(
-        &rt,
-        rt.alloc(),
-        "run --events 20000 --trace",
-        WRITES.as_bytes(),
-    )? {
-        let stores = number_of(&a.written, "mmio ");
-        let lines = "st 1001200c 00000001\n".repeat(rt.alloc(), stores as usize)?;
-        let end = format!(in rt.alloc(); "\nlamp off\nend running\ntrace\n{lines}")?;
-        assert!(rt; a.status == 0 && 2 <= stores);
-        assert!(rt; 997 <= number_of(&a.written, "done "));
-        assert!(rt; a.written.ends_with(end.as_bytes()));
-    }
-    for a in both(
-        &rt,
-        rt.alloc(),
-        "run --events 20000 --trace",
-        DIVIDES.as_bytes(),
-    )? {
-        assert!(rt; 997 <= number_of(&a.written, "done "));
-        assert!(rt;
-            a.written.ends_with(
-                b"\nmmio 2\narrived 0\nlamp off\nend running\ntrace\nst 1001200c ffffffff\nst 1001200c 00000007\n"
-            )
-        );
-    }
+    assert!(rt; plain_runs(rt.alloc())?);
+    assert!(rt; bulb_runs(&rt, rt.alloc())?);
     Ok(())
 }
 
@@ -295,74 +317,102 @@ fn two_workers_race(rt: HostRuntime) -> Result<(), Fail> {
     Ok(())
 }
 
+// Whether both calls do the same, and no frame arrives.
+fn are_alike<R: Threads + Wait + Sync>(
+    rt: &R,
+    alloc: Global,
+    line: &str,
+) -> Result<bool, AllocError> {
+    let input = format!(in alloc; "{EMPTY}\n%%\n{ON}")?;
+    let plain = by_plain(alloc, line, input.as_bytes())?;
+    let raced = by_bulb(rt, alloc, line, input.as_bytes())?;
+    Ok(
+        plain.status == 0
+            && has_line(&plain.written, "arrived 0")
+            && raced.is(0, plain.written.as_slice()),
+    )
+}
+
 // Frames don't arrive while nobody listens; with one worker both calls do the same.
 #[test]
 fn runs_alike_by_one_worker(rt: HostRuntime) -> Result<(), Fail> {
-    let mut input = Vec::from_slice(rt.alloc(), EMPTY.as_bytes())?;
-    input.extend_from_slice(b"\n%%\n")?;
-    input.extend_from_slice(ON.as_bytes())?;
     for line in [
         "run --events 5000 --workers 1 --log",
         "run --events 5000 --workers 1 --seed 9 --log --trace",
     ] {
-        let [plain, raced] = both(&rt, rt.alloc(), line, &input)?;
-        assert!(rt; plain.status == 0 && has_line(&plain.written, "arrived 0"));
-        assert!(rt; plain.written == raced.written);
+        assert!(rt; are_alike(&rt, rt.alloc(), line)?, "of {line}");
     }
     Ok(())
 }
 
-// The section of the log in a report.
-fn log_of(report: &[u8]) -> &[u8] {
-    let mark = b"\nlog\n".as_slice();
-    for place in 0..report.len() {
-        if let Some(log) = report[place..].strip_prefix(mark) {
-            return log;
-        }
-    }
-    b""
+// Whether the replay of what a run of the source printed is the same report.
+fn is_replayed(alloc: Global, source: &str, a: &Answer) -> Result<bool, AllocError> {
+    let mut input = Vec::from_slice(alloc, source.as_bytes())?;
+    input.extend_from_slice(b"\n%%\n%%\n")?;
+    input.extend_from_slice(log_of_report(&a.written))?;
+    let again = call_plain(alloc, &call_of(&REPLAY, &input))?;
+    Ok(again.is(0, a.written.as_slice()) && again.entries == a.entries)
 }
 
-// The replay of what a run printed is the same report.
-fn replays<R: Abort + Threads + Wait + Sync>(
+// Whether what both calls run is replayed.
+fn are_replayed<R: Threads + Wait + Sync>(
     rt: &R,
     alloc: Global,
     source: &str,
     run: &str,
-) -> Result<(), Fail> {
-    for a in both(rt, alloc, run, source.as_bytes())? {
-        let mut input = Vec::from_slice(alloc, source.as_bytes())?;
-        input.extend_from_slice(b"\n%%\n%%\n")?;
-        input.extend_from_slice(log_of(&a.written))?;
-        let again = call_plain(alloc, &call_of(&REPLAY, &input))?;
-        assert_eq!(rt; again.status, 0, "of {run} {source}");
-        assert!(rt; again.written == a.written, "of {run} {source}");
-        assert_eq!(rt; again.entries, a.entries);
-    }
-    Ok(())
+) -> Result<bool, AllocError> {
+    let plain = is_replayed(alloc, source, &by_plain(alloc, run, source.as_bytes())?)?;
+    let raced = is_replayed(alloc, source, &by_bulb(rt, alloc, run, source.as_bytes())?)?;
+    Ok(plain && raced)
 }
 
 #[test]
 fn replays_what_was_run(rt: HostRuntime) -> Result<(), Fail> {
-    for events in [1u32, 2, 31, 32, 33, 64, 100, 5000] {
-        let run = format!(in rt.alloc(); "run --log --trace --events {events}")?;
-        replays(&rt, rt.alloc(), EMPTY, &run)?;
-        replays(&rt, rt.alloc(), WRITES, &run)?;
+    for run in [
+        "run --log --trace --events 1",
+        "run --log --trace --events 2",
+        "run --log --trace --events 31",
+        "run --log --trace --events 32",
+        "run --log --trace --events 33",
+        "run --log --trace --events 64",
+        "run --log --trace --events 100",
+        "run --log --trace --events 5000",
+    ] {
+        assert!(rt; are_replayed(&rt, rt.alloc(), EMPTY, run)?, "of {run}");
+        assert!(rt; are_replayed(&rt, rt.alloc(), WRITES, run)?, "of {run}");
     }
     Ok(())
+}
+
+// Whether it is a run that ends so, with fewer entries than it may have.
+fn is_halted(a: &Answer, end: &str) -> bool {
+    a.status == 0
+        && has_line(&a.written, end)
+        && number_of(&a.written, "events ") as usize == a.entries
+        && 1 <= a.entries
+        && a.entries < 20_000
+}
+
+// Whether both calls run the source until it halts so.
+fn both_halt<R: Threads + Wait + Sync>(
+    rt: &R,
+    alloc: Global,
+    source: &str,
+    end: &str,
+) -> Result<bool, AllocError> {
+    let line = "run --events 20000";
+    let plain = is_halted(&by_plain(alloc, line, source.as_bytes())?, end);
+    let raced = is_halted(&by_bulb(rt, alloc, line, source.as_bytes())?, end);
+    Ok(plain && raced)
 }
 
 // A halted machine has fewer entries than it may have.
 #[test]
 fn runs_until_a_halt(rt: HostRuntime) -> Result<(), Fail> {
+    let run = "run --log --trace --events 20000";
     for (source, end) in HALTING {
-        for a in both(&rt, rt.alloc(), "run --events 20000", source.as_bytes())? {
-            assert_eq!(rt; a.status, 0, "of {source}");
-            assert!(rt; has_line(&a.written, end), "of {source}");
-            assert_eq!(rt; number_of(&a.written, "events ") as usize, a.entries);
-            assert!(rt; 1 <= a.entries && a.entries < 20_000, "of {source}");
-        }
-        replays(&rt, rt.alloc(), source, "run --log --trace --events 20000")?;
+        assert!(rt; both_halt(&rt, rt.alloc(), source, end)?, "of {source}");
+        assert!(rt; are_replayed(&rt, rt.alloc(), source, run)?, "of {source}");
     }
     Ok(())
 }
@@ -375,87 +425,99 @@ fn lights(a: &Answer, lines: &[&str]) -> bool {
         && lines.iter().all(|line| has_line(&a.written, line))
 }
 
+// Whether `plain` lights the lamp so, where these frames arrive.
+fn plain_lights(
+    alloc: Global,
+    line: &str,
+    frames: &[&str],
+    lines: &[&str],
+) -> Result<bool, AllocError> {
+    let input = frames.concat(alloc)?;
+    Ok(lights(&by_plain(alloc, line, input.as_bytes())?, lines))
+}
+
+// Whether `bulb` does.
+fn bulb_lights<R: Threads + Wait + Sync>(
+    rt: &R,
+    alloc: Global,
+    line: &str,
+    frames: &[&str],
+    lines: &[&str],
+) -> Result<bool, AllocError> {
+    let input = frames.concat(alloc)?;
+    Ok(lights(&by_bulb(rt, alloc, line, input.as_bytes())?, lines))
+}
+
 #[test]
 fn switches_the_lamp_on(rt: HostRuntime) -> Result<(), Fail> {
-    let frames = format!(in rt.alloc(); "{SHORT}{ON}{TCP}")?;
-    for a in both(&rt, rt.alloc(), "lamp --events 2000000", frames.as_bytes())? {
-        assert!(rt;
-            lights(
-                &a,
-                &["events 2000000", "arrived 3", "lamp on", "switches 1"]
-            )
-        );
-    }
+    let line = "lamp --events 2000000";
+    let frames = [SHORT, ON, TCP];
+    let lines = ["events 2000000", "arrived 3", "lamp on", "switches 1"];
+    assert!(rt; plain_lights(rt.alloc(), line, &frames, &lines)?);
+    assert!(rt; bulb_lights(&rt, rt.alloc(), line, &frames, &lines)?);
     Ok(())
 }
 
 #[test]
 fn leaves_the_lamp_off(rt: HostRuntime) -> Result<(), Fail> {
-    let marked = format!(in rt.alloc(); "!{ON}")?;
-    for a in both(&rt, rt.alloc(), "lamp", marked.as_bytes())? {
-        assert!(rt;
-            lights(
-                &a,
-                &["events 400000", "arrived 1", "lamp off", "switches 0"]
-            )
-        );
-    }
-    for a in both(&rt, rt.alloc(), "lamp", b"")? {
-        assert!(rt;
-            lights(
-                &a,
-                &["events 400000", "arrived 0", "lamp off", "switches 0"]
-            )
-        );
-    }
+    let marked = ["!", ON];
+    let lines = ["events 400000", "arrived 1", "lamp off", "switches 0"];
+    assert!(rt; plain_lights(rt.alloc(), "lamp", &marked, &lines)?);
+    assert!(rt; bulb_lights(&rt, rt.alloc(), "lamp", &marked, &lines)?);
+    let lines = ["events 400000", "arrived 0", "lamp off", "switches 0"];
+    assert!(rt; plain_lights(rt.alloc(), "lamp", &[], &lines)?);
+    assert!(rt; bulb_lights(&rt, rt.alloc(), "lamp", &[], &lines)?);
     Ok(())
 }
 
+const OFF_AGAIN: [&str; 4] = ["events 4000000", "arrived 2", "lamp off", "switches 2"];
+
 #[test]
 fn switches_the_lamp_off_again(rt: HostRuntime) -> Result<(), Fail> {
-    let frames = format!(in rt.alloc(); "{ON}{OFF}")?;
-    let words = ["bulb", "lamp", "--events", "4000000"];
-    let a = call_plain(rt.alloc(), &call_of(&words, frames.as_bytes()))?;
-    assert!(rt;
-        lights(
-            &a,
-            &["events 4000000", "arrived 2", "lamp off", "switches 2"]
-        )
-    );
+    assert!(rt; plain_lights(rt.alloc(), "lamp --events 4000000", &[ON, OFF], &OFF_AGAIN)?);
     Ok(())
 }
 
 #[test]
 fn switches_the_lamp_off_again_by_a_crew(rt: HostRuntime) -> Result<(), Fail> {
-    let frames = format!(in rt.alloc(); "{ON}{OFF}")?;
-    let words = ["bulb", "lamp", "--events", "4000000"];
-    let call = call_of(&words, frames.as_bytes());
-    let a = call_bulb(&rt, rt.alloc(), &call, &OpenGate)?;
-    assert!(rt;
-        lights(
-            &a,
-            &["events 4000000", "arrived 2", "lamp off", "switches 2"]
-        )
-    );
+    let line = "lamp --events 4000000";
+    assert!(rt; bulb_lights(&rt, rt.alloc(), line, &[ON, OFF], &OFF_AGAIN)?);
     Ok(())
+}
+
+// Whether it is this verdict, without an image.
+fn judges(a: &Answer, verdict: &str) -> bool {
+    a.is(0, verdict.as_bytes()) && !a.has_image
+}
+
+// Whether both calls judge a boot whose first wait is in vain so many times, and then goes on so.
+fn both_judge<R: Threads + Wait + Sync>(
+    rt: &R,
+    alloc: Global,
+    polls: usize,
+    more: &str,
+    verdict: &str,
+) -> Result<bool, AllocError> {
+    let pins = "st 10012038 0000003c\nst 10012008 00800000\nst 10024018 00000002\n";
+    let waits = "ld 10024048 80000000\n".repeat(alloc, polls)?;
+    let trace = format!(in alloc; "{pins}{waits}st 10024018 00000000\n{more}")?;
+    let plain = judges(&by_plain(alloc, "judge", trace.as_bytes())?, verdict);
+    let raced = judges(&by_bulb(rt, alloc, "judge", trace.as_bytes())?, verdict);
+    Ok(plain && raced)
 }
 
 // The status of the chip's bus never comes: 1,000 vain polls, then standstill.
 #[test]
 fn judges_waits_in_vain(rt: HostRuntime) -> Result<(), Fail> {
-    let pins = "st 10012038 0000003c\nst 10012008 00800000\nst 10024018 00000002\n";
-    let end = "st 10024018 00000000\n";
     for (polls, more, verdict) in [
         (1000usize, "", "prefix rounds 0\n"),
         (1000, "st 10024018 00000000\n", "leaves at 1004\n"),
         (999, "", "leaves at 1002\n"),
     ] {
-        let waits = "ld 10024048 80000000\n".repeat(rt.alloc(), polls)?;
-        let trace = format!(in rt.alloc(); "{pins}{waits}{end}{more}")?;
-        for a in both(&rt, rt.alloc(), "judge", trace.as_bytes())? {
-            assert_eq!(rt; (a.status, a.has_image), (0, false));
-            assert!(rt; a.written.as_slice() == verdict.as_bytes());
-        }
+        assert!(rt;
+            both_judge(&rt, rt.alloc(), polls, more, verdict)?,
+            "of {polls} polls"
+        );
     }
     Ok(())
 }

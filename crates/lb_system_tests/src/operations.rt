@@ -1,5 +1,5 @@
 // Each operation on pairs of words, in code that was compiled and run.
-use lb_testkit::call::{call_plain, whole};
+use lb_testkit::call::{ends, whole};
 use lb_trace::{Event, print_trace};
 use std::alloc::{AllocError, Global};
 use std::test::Fail;
@@ -84,19 +84,19 @@ fn report(alloc: Global, values: &[u32]) -> Result<Vec<u8>, AllocError> {
     Ok(text)
 }
 
+// Whether the code of that program writes these values.
+fn computes(alloc: Global, sign: &str, literals: bool, values: &[u32]) -> Result<bool, AllocError> {
+    let text = program(alloc, sign, literals)?;
+    let want = report(alloc, values)?;
+    let call = whole(&["bulb", "isa", "--events", "5000", "--trace"], &text);
+    ends(alloc, &call, 0, &want)
+}
+
 #[test]
 fn computes_each_operation(rt: HostRuntime) -> Result<(), Fail> {
     for (sign, values) in ROWS {
-        let want = report(rt.alloc(), &values)?;
-        for literals in [true, false] {
-            let text = program(rt.alloc(), sign, literals)?;
-            let a = call_plain(
-                rt.alloc(),
-                &whole(&["bulb", "isa", "--events", "5000", "--trace"], &text),
-            )?;
-            assert_eq!(rt; a.status, 0, "of {sign}");
-            assert!(rt; a.written.as_slice() == want.as_slice(), "of {sign}");
-        }
+        assert!(rt; computes(rt.alloc(), sign, true, &values)?, "of {sign}");
+        assert!(rt; computes(rt.alloc(), sign, false, &values)?, "of {sign}");
     }
     Ok(())
 }

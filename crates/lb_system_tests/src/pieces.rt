@@ -1,5 +1,6 @@
 // Reading and writing in pieces, and failing in the middle.
-use lb_testkit::call::{Call, call_plain, whole};
+use lb_testkit::call::{Call, call_plain, ends, whole};
+use std::alloc::{AllocError, Global};
 use std::test::Fail;
 
 const READS: &[u8] =
@@ -15,9 +16,7 @@ fn reads_and_writes_bytes_singly(rt: HostRuntime) -> Result<(), Fail> {
         piece: 1,
         ..whole(&WORDS, READS)
     };
-    let a = call_plain(rt.alloc(), &call)?;
-    assert_eq!(rt; a.status, 0);
-    assert!(rt; a.written.as_slice() == REPORT);
+    assert!(rt; ends(rt.alloc(), &call, 0, REPORT)?);
     Ok(())
 }
 
@@ -29,9 +28,7 @@ fn tells_a_read_that_fails(rt: HostRuntime) -> Result<(), Fail> {
             read_fails: &[fails],
             ..whole(&WORDS, READS)
         };
-        let a = call_plain(rt.alloc(), &call)?;
-        assert_eq!(rt; a.status, 6, "at {fails}");
-        assert!(rt; a.written.as_slice() == b"read fault\n".as_slice());
+        assert!(rt; ends(rt.alloc(), &call, 6, b"read fault\n")?, "at {fails}");
     }
     Ok(())
 }
@@ -42,32 +39,35 @@ fn keeps_the_status_where_the_line_is_cut(rt: HostRuntime) -> Result<(), Fail> {
         room: 4,
         ..whole(&["bulb"], READS)
     };
-    let a = call_plain(rt.alloc(), &call)?;
-    assert_eq!(rt; a.status, 1);
-    assert!(rt; a.written.as_slice() == b"usag".as_slice());
+    assert!(rt; ends(rt.alloc(), &call, 1, b"usag")?);
     Ok(())
+}
+
+// Whether a sink with so much room holds as much of the report, the status tells that it is cut, and the image is shown.
+fn is_cut_at(alloc: Global, room: usize) -> Result<bool, AllocError> {
+    let call = Call {
+        room,
+        ..whole(&WORDS, READS)
+    };
+    let a = call_plain(alloc, &call)?;
+    Ok(
+        a.status == 7
+            && a.written.len() == room
+            && REPORT.starts_with(a.written.as_slice())
+            && a.has_image,
+    )
 }
 
 #[test]
 fn tells_a_write_that_fails(rt: HostRuntime) -> Result<(), Fail> {
-    for (room, written) in [(0usize, 0usize), (1, 1), (20, 20), (45, 45)] {
-        let call = Call {
-            room,
-            ..whole(&WORDS, READS)
-        };
-        let a = call_plain(rt.alloc(), &call)?;
-        assert_eq!(rt; a.status, 7, "room {room}");
-        assert_eq!(rt; a.written.len(), written);
-        assert!(rt; REPORT.starts_with(a.written.as_slice()));
-        assert!(rt; a.has_image);
+    for room in [0, 1, 20, 45] {
+        assert!(rt; is_cut_at(rt.alloc(), room)?, "room {room}");
     }
     let call = Call {
         piece: 10,
         write_fails: &[2],
         ..whole(&WORDS, READS)
     };
-    let a = call_plain(rt.alloc(), &call)?;
-    assert_eq!(rt; a.status, 7);
-    assert!(rt; a.written.as_slice() == b"mmio 1\nend starved\nt".as_slice());
+    assert!(rt; ends(rt.alloc(), &call, 7, b"mmio 1\nend starved\nt")?);
     Ok(())
 }

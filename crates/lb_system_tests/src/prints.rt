@@ -1,5 +1,6 @@
 // What `print` writes.
 use lb_testkit::call::{call_plain, whole};
+use std::alloc::{AllocError, Global};
 use std::test::Fail;
 
 const PRINT: [&str; 2] = ["bulb", "print"];
@@ -33,16 +34,16 @@ const ROWS: [(&str, u8, &str); 8] = [
     ("fn init() { x = 1 + 2; }", 2, "text at 18 unexpected\n"),
 ];
 
+// Whether `print` answers so to the input, without an image.
+fn prints(alloc: Global, input: &str, status: u8, text: &str) -> Result<bool, AllocError> {
+    let a = call_plain(alloc, &whole(&PRINT, input.as_bytes()))?;
+    Ok(a.is(status, text.as_bytes()) && !a.has_image)
+}
+
 #[test]
 fn prints_programs(rt: HostRuntime) -> Result<(), Fail> {
     for (input, status, text) in ROWS {
-        let a = call_plain(rt.alloc(), &whole(&PRINT, input.as_bytes()))?;
-        assert_eq!(rt; a.status, status, "of {input}");
-        assert!(rt;
-            a.written.as_slice() == text.as_bytes(),
-            "written for {input}"
-        );
-        assert!(rt; !a.has_image);
+        assert!(rt; prints(rt.alloc(), input, status, text)?, "of {input}");
     }
     Ok(())
 }
@@ -51,12 +52,7 @@ fn prints_programs(rt: HostRuntime) -> Result<(), Fail> {
 fn prints_what_was_printed(rt: HostRuntime) -> Result<(), Fail> {
     for (_, status, text) in ROWS {
         if status == 0 {
-            let a = call_plain(rt.alloc(), &whole(&PRINT, text.as_bytes()))?;
-            assert_eq!(rt; a.status, 0, "of {text}");
-            assert!(rt;
-                a.written.as_slice() == text.as_bytes(),
-                "written for {text}"
-            );
+            assert!(rt; prints(rt.alloc(), text, 0, text)?, "of {text}");
         }
     }
     Ok(())

@@ -1,5 +1,5 @@
 // Programs at their limits, and one past each.
-use lb_testkit::call::{Answer, Call, call_plain, whole};
+use lb_testkit::call::{Answer, Call, call_plain, ends, whole};
 use std::alloc::{AllocError, Global};
 use std::test::Fail;
 
@@ -49,9 +49,7 @@ fn takes_names_and_numbers_up_to_their_ends(rt: HostRuntime) -> Result<(), Fail>
 fn builds_large_frames(rt: HostRuntime) -> Result<(), Fail> {
     let text = assignments(rt.alloc(), 1000, 1)?;
     let call = whole(&["bulb", "isa", "--events", "100000"], &text);
-    let a = call_plain(rt.alloc(), &call)?;
-    assert_eq!(rt; a.status, 0);
-    assert!(rt; a.written.as_slice() == b"done 100000\nmmio 0\nend running\n".as_slice());
+    assert!(rt; ends(rt.alloc(), &call, 0, b"done 100000\nmmio 0\nend running\n")?);
     Ok(())
 }
 
@@ -82,8 +80,7 @@ fn takes_frames(alloc: Global, part: &str, many: usize) -> Result<bool, AllocErr
 
 // Whether the frames are refused with this line.
 fn refuses_frames(alloc: Global, part: &str, many: usize, line: &str) -> Result<bool, AllocError> {
-    let a = answer_to_frames(alloc, part, many)?;
-    Ok(a.status == 5 && a.written.as_slice() == line.as_bytes())
+    Ok(answer_to_frames(alloc, part, many)?.is(5, line.as_bytes()))
 }
 
 // 64 frames of a byte, one frame of 2,000 bytes, and one more of each.

@@ -1,6 +1,6 @@
 // What `interp` and `isa` report, and what the modes that compile refuse.
 use lb_bulb::source;
-use lb_testkit::call::{Answer, call_plain, whole};
+use lb_testkit::call::{Answer, call_plain, ends, whole, words_of_line};
 use std::alloc::{AllocError, Global};
 use std::test::Fail;
 
@@ -172,26 +172,37 @@ const USAGE: &str = "usage: bulb MODE [--events N] [--workers W] [--seed S] [--l
 
 // What the program answers to words with a blank between them.
 fn answer(alloc: Global, line: &str, input: &[u8]) -> Result<Answer, AllocError> {
-    let mut words = Vec::new(alloc);
-    words.push("bulb")?;
-    for word in line.split(' ') {
-        words.push(word)?;
-    }
+    let words = words_of_line(alloc, line)?;
     call_plain(alloc, &whole(&words, input))
+}
+
+// Whether the program answers so, with an image exactly where the status is 0.
+fn reports(
+    alloc: Global,
+    line: &str,
+    input: &str,
+    status: u8,
+    written: &str,
+) -> Result<bool, AllocError> {
+    let a = answer(alloc, line, input.as_bytes())?;
+    Ok(a.is(status, written.as_bytes()) && a.has_image == (status == 0))
 }
 
 #[test]
 fn reports_runs(rt: HostRuntime) -> Result<(), Fail> {
     for (words, input, status, written) in ROWS {
-        let a = answer(rt.alloc(), words, input.as_bytes())?;
-        assert_eq!(rt; a.status, status, "of {words} {input}");
         assert!(rt;
-            a.written.as_slice() == written.as_bytes(),
-            "written by {words} for {input}"
+            reports(rt.alloc(), words, input, status, written)?,
+            "of {words} {input}"
         );
-        assert_eq!(rt; a.has_image, status == 0, "of {words} {input}");
     }
     Ok(())
+}
+
+// Whether the report of a run of the code ends so.
+fn runs_to(alloc: Global, input: &str, ends: &str) -> Result<bool, AllocError> {
+    let a = answer(alloc, "isa --trace", input.as_bytes())?;
+    Ok(a.status == 0 && a.written.starts_with(b"done ") && a.written.ends_with(ends.as_bytes()))
 }
 
 // How many instructions these take is the compiler's choice.
@@ -211,25 +222,25 @@ fn waits_and_halts(rt: HostRuntime) -> Result<(), Fail> {
             "\nmmio 0\nend halted store-to-code\ntrace\n",
         ),
     ] {
-        let a = answer(rt.alloc(), "isa --trace", input.as_bytes())?;
-        assert_eq!(rt; a.status, 0, "of {input}");
-        assert!(rt; a.written.starts_with(b"done "));
-        assert!(rt; a.written.ends_with(ends.as_bytes()), "of {input}");
+        assert!(rt; runs_to(rt.alloc(), input, ends)?, "of {input}");
     }
     Ok(())
+}
+
+// Whether `interp` answers so to the driver, whose chip is busy at so many reads.
+fn interprets(alloc: Global, busy: usize, written: &[u8]) -> Result<bool, AllocError> {
+    let mut input = Vec::from_slice(alloc, source())?;
+    input.extend_from_slice(b"\n%%\n")?;
+    for _ in 0..busy {
+        input.extend_from_slice(b"80000000\n")?;
+    }
+    Ok(answer(alloc, "interp --events 2000", &input)?.is(0, written))
 }
 
 // The driver polls a chip that never answers: 1,000 reads, and 4 writes.
 #[test]
 fn interprets_the_driver(rt: HostRuntime) -> Result<(), Fail> {
-    let mut input = Vec::from_slice(rt.alloc(), source())?;
-    input.extend_from_slice(b"\n%%\n")?;
-    for _ in 0..1000 {
-        input.extend_from_slice(b"80000000\n")?;
-    }
-    let a = answer(rt.alloc(), "interp --events 2000", &input)?;
-    assert_eq!(rt; a.status, 0);
-    assert!(rt; a.written.as_slice() == b"mmio 1004\nend spent\n".as_slice());
+    assert!(rt; interprets(rt.alloc(), 1000, b"mmio 1004\nend spent\n")?);
     Ok(())
 }
 
@@ -266,9 +277,10 @@ fn compiles_images_that_list_alike(rt: HostRuntime) -> Result<(), Fail> {
 #[test]
 fn refuses_words(rt: HostRuntime) -> Result<(), Fail> {
     for words in WORDS {
-        let a = call_plain(rt.alloc(), &whole(words, b""))?;
-        assert_eq!(rt; a.status, 1, "of {words:?}");
-        assert!(rt; a.written.as_slice() == USAGE.as_bytes(), "of {words:?}");
+        assert!(rt;
+            ends(rt.alloc(), &whole(words, b""), 1, USAGE.as_bytes())?,
+            "of {words:?}"
+        );
     }
     Ok(())
 }

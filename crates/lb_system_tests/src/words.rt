@@ -1,5 +1,5 @@
 // Words with options, which `check` takes and does nothing with, and the forms of the number of events, which `run` makes.
-use lb_testkit::call::{Answer, call_plain, whole};
+use lb_testkit::call::{Answer, call_plain, whole, words_of_line};
 use std::alloc::{AllocError, Global};
 use std::test::Fail;
 
@@ -52,15 +52,15 @@ Check";
 
 // What the program answers to the words of a line.
 fn answer(alloc: Global, line: &str) -> Result<Answer, AllocError> {
-    let mut words = Vec::new(alloc);
-    words.push("bulb")?;
-    for word in line.split(' ') {
-        words.push(word)?;
-    }
+    let words = words_of_line(alloc, line)?;
     call_plain(alloc, &whole(&words, EMPTY))
 }
 
-// Whether the words end so.
+// Whether the words of a line are answered so.
+fn ends_so(alloc: Global, line: &str, status: u8, written: &str) -> Result<bool, AllocError> {
+    Ok(answer(alloc, line)?.is(status, written.as_bytes()))
+}
+
 #[test]
 fn takes_options(rt: HostRuntime) -> Result<(), Fail> {
     for (lines, status, written) in [
@@ -68,9 +68,7 @@ fn takes_options(rt: HostRuntime) -> Result<(), Fail> {
         (REFUSED, 1, USAGE),
     ] {
         for line in lines.lines() {
-            let a = answer(rt.alloc(), line)?;
-            assert_eq!(rt; a.status, status, "of {line}");
-            assert!(rt; a.written.as_slice() == written.as_bytes(), "of {line}");
+            assert!(rt; ends_so(rt.alloc(), line, status, written)?, "of {line}");
         }
     }
     Ok(())

@@ -47,6 +47,44 @@ pub struct Answer {
     pub of_second: usize,
 }
 
+impl Answer {
+    /// Whether the call ended with this status and wrote this.
+    pub fn is(&self, status: u8, written: &[u8]) -> bool {
+        self.status == status && self.written.as_slice() == written
+    }
+}
+
+/// The words of a line, which have a blank between them, behind the program's name.
+pub fn words_of_line<'a>(alloc: Global, line: &'a str) -> Result<Vec<&'a str>, AllocError> {
+    let mut words = Vec::new(alloc);
+    words.push("bulb")?;
+    for word in line.split(' ') {
+        words.push(word)?;
+    }
+    Ok(words)
+}
+
+/// The log in a report: what stands behind the line `log`; nothing where there is none.
+pub fn log_of_report(report: &[u8]) -> &[u8] {
+    let mark = b"\nlog\n".as_slice();
+    for place in 0..report.len() {
+        if let Some(log) = report[place..].strip_prefix(mark) {
+            return log;
+        }
+    }
+    b""
+}
+
+/// Whether the call, made by `plain`, ends with this status and writes this.
+pub fn ends(
+    alloc: Global,
+    call: &Call<'_>,
+    status: u8,
+    written: &[u8],
+) -> Result<bool, AllocError> {
+    Ok(call_plain(alloc, call)?.is(status, written))
+}
+
 /// Makes the call by `plain`.
 pub fn call_plain(alloc: Global, call: &Call<'_>) -> Result<Answer, AllocError> {
     let words = words_of(alloc, call.words)?;
