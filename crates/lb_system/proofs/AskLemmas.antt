@@ -33,7 +33,7 @@ use Rattle.lb_system.specs.declared.fault.FormFault.TheVariants as form
 use Rattle.lb_system.specs.Report.{list_report}
 use Rattle.lb_system.specs.RunReport.{interp_report, isa_report}
 use Rattle.lb_system.specs.Views.{View, alone, with_image}
-use Rattle.lb_system.specs.Questions.{Case, Question, Lines, Sections, ImageFormat, Grammar, Rules, InForm, Replies, Events, Frames, Entries, SaysReplies, SaysEvents, HasLines, checked, listed, replied, source, AllHold}
+use Rattle.lb_system.specs.Questions.{Case, Question, Lines, Sections, ImageFormat, Grammar, Rules, InForm, Replies, Events, Frames, Entries, SaysReplies, SaysEvents, checked, listed, replied, source, AllHold}
 use Rattle.lb_grammar.specs.declared.Verdict.{Verdict}
 use Rattle.lb_system.specs.MachineReport.{IsVerdict, verdict_text}
 use Rattle.lb_system.proofs.QuestionLemmas.{first_behind}
@@ -79,22 +79,11 @@ rules_refused most qs job input p fault.TooLong o h = absurd h
 pub of_all : (P : List Procedure → Type 0) {text : Text} {p : List Procedure} → IsOnly text p → P p → (q : List Procedure) → IsAccepted q text → P q
 of_all P o h q a = subst P (sym (o.only q a)) h
 
-pub lines_refused : (job : Job) (input : Text) (p : List Procedure) (e : LineError) → IsOpened 2 input p → KeepsRules p
-    → ExplainsLines reply_form (lines_of (section 1 input).line (section 1 input).text) e → IsRefusalOf replied job input (without_image (lines_fault e))
-lines_refused job input p (line.Line f) o rules h =
-    let none : ¬ (HasLines Replies (section 1 input)) = λ some. let values : List ℕ = some.0 in one_replies.not_both (lines_of (section 1 input).line (section 1 input).text) values f some.1 h in
-    inr (
-      tt,
-      (
-        InForm Replies 1,
-        inr (o.few, inr ((p, o.text.accepted), inr (of_all KeepsRules o.text rules, inl (refl, none)))),
-        h,
-      ),
-      refl,
-    )
-lines_refused job input p line.Memory o rules h = inl (refl, refl)
-
 -- what lines that aren't in form leave
+pub replies_left : (part : Part) (e : LineError) → ExplainsLines reply_form (lines_of part.line part.text) e → LeavesForm Replies part (lines_fault e)
+replies_left part (line.Line f) h = (h, λ some. let values : List ℕ = some.0 in one_replies.not_both (lines_of part.line part.text) values f some.1 h)
+replies_left part line.Memory h = tt
+
 pub frames_left : (part : Part) (e : LineError) → ExplainsLines frame_form (lines_of part.line part.text) e → LeavesForm Frames part (lines_fault e)
 frames_left part (line.Line f) h = (h, λ some. let values : List FrameContent = some.0 in one_frames.not_both (lines_of part.line part.text) values f some.1 h)
 frames_left part line.Memory h = tt

@@ -44,6 +44,14 @@ impl From<AllocError> for Refused {
     }
 }
 
+impl From<Fault> for Refused {
+    ghost from_gives = { λ f e. e ≡ without_image f };
+
+    fn from(fault: Fault) -> Self {
+        Refused::without_image(fault)
+    }
+}
+
 /// Does a job on an input; the crew fires a machine's kinds.
 pub fn answer_to<F: Fn(Global, Machine, u8, u32) -> Result<Machine, AllocError>>(
     alloc: Global,

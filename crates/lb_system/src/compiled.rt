@@ -24,10 +24,7 @@ pub fn compile_mode(alloc: Global, job: &Job, input: &[u8]) -> Result<Shown, Ref
     ensures made { IfOk result (IsModeAnswer mode.Compile job.now input.now) }
     ensures refused { IfErr result (IsModeRefusal mode.Compile job.now input.now) }
 {
-    let (program, _) = match open_checked(alloc, input, 1) {
-        Ok(opened) => opened,
-        Err(refused) => return Err(refused),
-    };
+    let (program, _) = open_checked(alloc, input, 1)?;
     let image = image_of(alloc, &program)?;
     let report = to_bytes(alloc, &image)?;
     Ok(Shown::with_image(alloc, report, image))
@@ -41,10 +38,7 @@ pub fn list_source(alloc: Global, job: &Job, input: &[u8]) -> Result<Shown, Refu
         × ShowsListing false input.now s) }
     ensures refused { IfErr result (IsRefusalOf (listed false) job.now input.now) }
 {
-    let (program, _) = match open_checked(alloc, input, 1) {
-        Ok(opened) => opened,
-        Err(refused) => return Err(refused),
-    };
+    let (program, _) = open_checked(alloc, input, 1)?;
     let image = image_of(alloc, &program)?;
     let report = list_report(alloc, &image)?;
     Ok(Shown::with_image(alloc, report, image))
@@ -56,10 +50,7 @@ pub fn interp_mode(alloc: Global, job: &Job, input: &[u8]) -> Result<Shown, Refu
     ensures made { IfOk result (IsModeAnswer mode.Interp job.now input.now) }
     ensures refused { IfErr result (IsModeRefusal mode.Interp job.now input.now) }
 {
-    let (program, replies) = match open_replied(alloc, input) {
-        Ok(opened) => opened,
-        Err(refused) => return Err(refused),
-    };
+    let (program, replies) = open_replied(alloc, input)?;
     let image = image_of(alloc, &program)?;
     let report = interp_report(alloc, job, &program, &replies, &image)?;
     Ok(Shown::with_image(alloc, report, image))
@@ -71,10 +62,7 @@ pub fn isa_mode(alloc: Global, job: &Job, input: &[u8]) -> Result<Shown, Refused
     ensures made { IfOk result (IsModeAnswer mode.Isa job.now input.now) }
     ensures refused { IfErr result (IsModeRefusal mode.Isa job.now input.now) }
 {
-    let (program, replies) = match open_replied(alloc, input) {
-        Ok(opened) => opened,
-        Err(refused) => return Err(refused),
-    };
+    let (program, replies) = open_replied(alloc, input)?;
     let image = image_of(alloc, &program)?;
     let report = isa_report(alloc, job, &replies, &image)?;
     Ok(Shown::with_image(alloc, report, image))

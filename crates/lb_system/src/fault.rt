@@ -1,7 +1,7 @@
 // Why a call ends without a whole report.
 use lb_check::CheckFault;
 use lb_image::ImageFault;
-use lb_lines::LineFault;
+use lb_lines::{LineError, LineFault};
 use lb_text::TextFault;
 use std::alloc::AllocError;
 
@@ -50,5 +50,19 @@ impl From<AllocError> for Fault {
 
     fn from(_: AllocError) -> Self {
         Fault::Memory
+    }
+}
+
+impl From<LineError> for Fault {
+    ghost use Rattle.std.specs.Prelude.{◌≡◌};
+    ghost use Rattle.lb_system.specs.InternalAnswers.{lines_fault};
+
+    ghost from_gives = { λ error e. e ≡ lines_fault error };
+
+    fn from(error: LineError) -> Self {
+        match error {
+            LineError::Line(fault) => Fault::Form(FormFault::Line(fault)),
+            LineError::Memory => Fault::Memory,
+        }
     }
 }

@@ -11,7 +11,6 @@ use crate::answer::Refused;
 use crate::compiled::image_of;
 use crate::run_report::append_shown;
 use crate::shown::Shown;
-use lb_check::Checked;
 use lb_crew::serial_until;
 use lb_gen::checked_program;
 use lb_image::Image;

@@ -17,8 +17,8 @@ use lb_trace::{Entry, Event, Kind};
 use lb_words::Job;
 use std::alloc::{AllocError, Global};
 
-/// The address of the pins that the lamp is at.
-const PINS: u32 = 0x1001_200C;
+/// The address of the register of the pins' output values. The lamp is at one of these pins.
+const OUTPUT_VALUE: u32 = 0x1001_200C;
 
 /// The report of a machine.
 pub fn machine_report(alloc: Global, job: &Job, machine: &Machine) -> Result<Vec<u8>, AllocError>
@@ -128,13 +128,13 @@ fn switches_in(trace: &[Event]) -> usize
     trace.iter().filter(|event| is_switch(event)).count()
 }
 
-// Whether the event is a store to the pins.
+// Whether the event is a store of the pins' output values.
 fn is_switch(event: &Event) -> bool
     ensures { result ≡ is_switch event.now }
 {
     match *event {
         Event::Ld { .. } => false,
-        Event::St { addr, .. } => addr == PINS,
+        Event::St { addr, .. } => addr == OUTPUT_VALUE,
     }
 }
 

@@ -40,10 +40,7 @@ pub fn run_mode<F: Fn(Global, Machine, u8, u32) -> Result<Machine, AllocError>>(
     ensures made { IfOk result (IsCrewAnswer crew.now.alone mode.Run job.now input.now) }
     ensures refused { IfErr result (IsModeRefusal mode.Run job.now input.now) }
 {
-    let (program, frames, _) = match open_framed(alloc, input, 2) {
-        Ok(opened) => opened,
-        Err(refused) => return Err(refused),
-    };
+    let (program, frames, _) = open_framed(alloc, input, 2)?;
     let image = image_of(alloc, &program)?;
     let machine = finished(alloc, crew, job, &image, frames)?;
     let report = machine_report(alloc, job, &machine)?;
@@ -64,14 +61,8 @@ pub fn lamp_mode<F: Fn(Global, Machine, u8, u32) -> Result<Machine, AllocError>>
     ensures made { IfOk result (IsCrewAnswer crew.now.alone mode.Lamp job.now input.now) }
     ensures refused { IfErr result (IsModeRefusal mode.Lamp job.now input.now) }
 {
-    let list = match cut(alloc, input, 1) {
-        Ok(list) => list,
-        Err(refused) => return Err(refused),
-    };
-    let frames = match frames_of(alloc, &section_at(&list, 0)) {
-        Ok(frames) => frames,
-        Err(fault) => return Err(Refused::without_image(fault)),
-    };
+    let list = cut(alloc, input, 1)?;
+    let frames = frames_of(alloc, &section_at(&list, 0))?;
     let image = supplied_image(alloc)?;
     let machine = finished(alloc, crew, job, &image, frames)?;
     // The trace is a prefix of one of the grammar.
@@ -86,14 +77,8 @@ pub fn replay_mode(alloc: Global, job: &Job, input: &[u8]) -> Result<Shown, Refu
     ensures made { IfOk result (IsModeAnswer mode.Replay job.now input.now) }
     ensures refused { IfErr result (IsModeRefusal mode.Replay job.now input.now) }
 {
-    let (program, frames, list) = match open_framed(alloc, input, 3) {
-        Ok(opened) => opened,
-        Err(refused) => return Err(refused),
-    };
-    let log = match log_of(alloc, &section_at(&list, 2)) {
-        Ok(log) => log,
-        Err(fault) => return Err(Refused::without_image(fault)),
-    };
+    let (program, frames, list) = open_framed(alloc, input, 3)?;
+    let log = log_of(alloc, &section_at(&list, 2))?;
     let image = image_of(alloc, &program)?;
     let machine = match replayed(alloc, &image, frames, &log) {
         Ok(machine) => machine,

@@ -26,10 +26,7 @@ pub fn check_mode(alloc: Global, job: &Job, input: &[u8]) -> Result<Shown, Refus
     ensures made { IfOk result (IsModeAnswer mode.Check job.now input.now) }
     ensures refused { IfErr result (IsModeRefusal mode.Check job.now input.now) }
 {
-    let (program, _) = match open_checked(alloc, input, 1) {
-        Ok(opened) => opened,
-        Err(refused) => return Err(refused),
-    };
+    let (program, _) = open_checked(alloc, input, 1)?;
     let report = check_report(alloc, &program)?;
     Ok(Shown::alone(alloc, report))
 }
@@ -40,10 +37,7 @@ pub fn print_mode(alloc: Global, job: &Job, input: &[u8]) -> Result<Shown, Refus
     ensures made { IfOk result (IsModeAnswer mode.Print job.now input.now) }
     ensures refused { IfErr result (IsModeRefusal mode.Print job.now input.now) }
 {
-    let (program, _) = match open_read(alloc, input, 1) {
-        Ok(opened) => opened,
-        Err(refused) => return Err(refused),
-    };
+    let (program, _) = open_read(alloc, input, 1)?;
     let report = print_program(alloc, &program)?;
     Ok(Shown::alone(alloc, report))
 }
@@ -83,14 +77,8 @@ pub fn judge_mode(alloc: Global, job: &Job, input: &[u8]) -> Result<Shown, Refus
     ensures made { IfOk result (IsModeAnswer mode.Judge job.now input.now) }
     ensures refused { IfErr result (IsModeRefusal mode.Judge job.now input.now) }
 {
-    let list = match cut(alloc, input, 1) {
-        Ok(list) => list,
-        Err(refused) => return Err(refused),
-    };
-    let events = match events_of(alloc, &section_at(&list, 0)) {
-        Ok(events) => events,
-        Err(fault) => return Err(Refused::without_image(fault)),
-    };
+    let list = cut(alloc, input, 1)?;
+    let events = events_of(alloc, &section_at(&list, 0))?;
     let report = verdict_line(alloc, judge(&events))?;
     Ok(Shown::alone(alloc, report))
 }

@@ -6,14 +6,14 @@ ghost use Rattle.lb_check.specs.Parts.{parts};
 ghost use Rattle.lb_sections.specs.Sections.{seen, section, sections};
 ghost use Rattle.lb_words.specs.declared.job.Job.{Job};
 ghost use Rattle.lb_system.specs.Faults.{IsLimit};
-ghost use Rattle.lb_system.specs.Questions.{Question, Sections, Grammar, InForm, Frames, Entries, Events, SaysReplies, SaysFrames, SaysLog, SaysEvents, checked, replied};
+ghost use Rattle.lb_system.specs.Questions.{Question, Sections, Grammar, InForm, Frames, Entries, Events, Replies, SaysReplies, SaysFrames, SaysLog, SaysEvents, checked, replied};
 ghost use Rattle.lb_system.specs.Answers.{most_input};
-ghost use Rattle.lb_system.specs.InternalAnswers.{BreaksRules, IsOnly, IsOpened, IsRefusalOf, IsRuleFault, LeavesForm, LeavesGrammar, lines_fault, sections_fault};
+ghost use Rattle.lb_system.specs.InternalAnswers.{BreaksRules, IsOnly, IsOpened, IsRefusalOf, IsRuleFault, LeavesForm, LeavesGrammar, sections_fault};
 
 use crate::answer::Refused;
 use crate::fault::{Fault, FormFault};
 use lb_check::{CheckError, CheckFault, Checked, check};
-use lb_lines::{LineError, read_frames, read_log, read_replies, read_trace};
+use lb_lines::{read_frames, read_log, read_replies, read_trace};
 use lb_sections::{Section, SectionsError, section_at, sections_of};
 use lb_syntax::Program;
 use lb_text::{ReadError, read_program};
@@ -34,14 +34,9 @@ pub fn open_checked<'a>(
     ensures refused { IfErr result (λ r. (job : Job) (qs : List Question)
         → IsRefusalOf (Sections most ∷ (checked ++ qs)) job input.now r) }
 {
-    let (program, list) = match open_read(alloc, input, most) {
-        Ok(opened) => opened,
-        Err(refused) => return Err(refused),
-    };
-    match check_rules(alloc, program) {
-        Ok(program) => Ok((program, list)),
-        Err(fault) => Err(Refused::without_image(fault)),
-    }
+    let (program, list) = open_read(alloc, input, most)?;
+    let checked = check_rules(alloc, program)?;
+    Ok((checked, list))
 }
 
 /// The source, which keeps the rules, and the replies of the section behind it.
@@ -52,15 +47,9 @@ pub fn open_replied(alloc: Global, input: &[u8]) -> Result<(Checked, Vec<u32>), 
     ensures replies { IfOk result (λ o. SaysReplies (section 1 input.now) o.1.items) }
     ensures refused { IfErr result (λ r. (job : Job) → IsRefusalOf replied job input.now r) }
 {
-    let (program, list) = match open_checked(alloc, input, 2) {
-        Ok(opened) => opened,
-        Err(refused) => return Err(refused),
-    };
-    let behind = section_at(&list, 1);
-    match read_replies(alloc, behind.text, behind.line) {
-        Ok(replies) => Ok((program, replies)),
-        Err(error) => Err(Refused::without_image(lines_fault(error))),
-    }
+    let (program, list) = open_checked(alloc, input, 2)?;
+    let replies = replies_of(alloc, &section_at(&list, 1))?;
+    Ok((program, replies))
 }
 
 /// The source, which keeps the rules, the frames of the section behind it, and all sections, of which
@@ -79,14 +68,18 @@ pub fn open_framed<'a>(
     ensures refused { IfErr result (λ r. (job : Job) (qs : List Question)
         → IsRefusalOf (Sections most ∷ (checked ++ InForm Frames 1 ∷ qs)) job input.now r) }
 {
-    let (program, list) = match open_checked(alloc, input, most) {
-        Ok(opened) => opened,
-        Err(refused) => return Err(refused),
-    };
-    match frames_of(alloc, &section_at(&list, 1)) {
-        Ok(frames) => Ok((program, frames, list)),
-        Err(fault) => Err(Refused::without_image(fault)),
-    }
+    let (program, list) = open_checked(alloc, input, most)?;
+    let frames = frames_of(alloc, &section_at(&list, 1))?;
+    Ok((program, frames, list))
+}
+
+// The replies that a section says.
+fn replies_of(alloc: Global, section: &Section<'_>) -> Result<Vec<u32>, Fault>
+    requires { (seen section.now).line + length (seen section.now).text < 2 ^ 32 }
+    ensures read { IfOk result (λ replies. SaysReplies (seen section.now) replies.items) }
+    ensures refused { IfErr result (LeavesForm Replies (seen section.now)) }
+{
+    Ok(read_replies(alloc, section.text, section.line)?)
 }
 
 /// The frames that a section says.
@@ -95,10 +88,7 @@ pub fn frames_of(alloc: Global, section: &Section<'_>) -> Result<Vec<Frame>, Fau
     ensures read { IfOk result (λ frames. SaysFrames (seen section.now) frames.items) }
     ensures refused { IfErr result (LeavesForm Frames (seen section.now)) }
 {
-    match read_frames(alloc, section.text, section.line) {
-        Ok(frames) => Ok(frames),
-        Err(error) => Err(lines_fault(error)),
-    }
+    Ok(read_frames(alloc, section.text, section.line)?)
 }
 
 /// The log that a section says.
@@ -107,10 +97,7 @@ pub fn log_of(alloc: Global, section: &Section<'_>) -> Result<Vec<Entry>, Fault>
     ensures read { IfOk result (λ log. SaysLog (seen section.now) log.items) }
     ensures refused { IfErr result (LeavesForm Entries (seen section.now)) }
 {
-    match read_log(alloc, section.text, section.line) {
-        Ok(log) => Ok(log),
-        Err(error) => Err(lines_fault(error)),
-    }
+    Ok(read_log(alloc, section.text, section.line)?)
 }
 
 /// The accesses of devices that a section says.
@@ -119,20 +106,7 @@ pub fn events_of(alloc: Global, section: &Section<'_>) -> Result<Vec<Event>, Fau
     ensures read { IfOk result (λ events. SaysEvents (seen section.now) events.items) }
     ensures refused { IfErr result (LeavesForm Events (seen section.now)) }
 {
-    match read_trace(alloc, section.text, section.line) {
-        Ok(events) => Ok(events),
-        Err(error) => Err(lines_fault(error)),
-    }
-}
-
-// The fault of lines that aren't in form.
-fn lines_fault(error: LineError) -> Fault
-    ensures { result ≡ lines_fault error }
-{
-    match error {
-        LineError::Line(fault) => Fault::Form(FormFault::Line(fault)),
-        LineError::Memory => Fault::Memory,
-    }
+    Ok(read_trace(alloc, section.text, section.line)?)
 }
 
 /// The source, which need not keep the rules, and all sections, of which there are at most so many.
@@ -149,15 +123,10 @@ pub fn open_read<'a>(
     ensures refused { IfErr result (λ r. (job : Job) (qs : List Question)
         → IsRefusalOf (Sections most ∷ Grammar ∷ qs) job input.now r) }
 {
-    let list = match cut(alloc, input, most) {
-        Ok(list) => list,
-        Err(refused) => return Err(refused),
-    };
+    let list = cut(alloc, input, most)?;
     let source = section_at(&list, 0);
-    match read(alloc, source.text) {
-        Ok(program) => Ok((program, list)),
-        Err(fault) => Err(Refused::without_image(fault)),
-    }
+    let program = read(alloc, source.text)?;
+    Ok((program, list))
 }
 
 /// The sections, of which there are at most so many.

@@ -168,7 +168,7 @@ fn write_report<O: Sink>(output: &mut O, shown: Shown) -> Ended
     let Shown { report, log, image } = shown;
     let (status, fault) = match write_all(output, &report) {
         Ok(()) => (0, None),
-        Err(_) => (7, Some(Fault::Write)),
+        Err(_) => (status(&Fault::Write), Some(Fault::Write)),
     };
     Ended {
         status,
