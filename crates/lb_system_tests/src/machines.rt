@@ -248,7 +248,7 @@ fn stores_ones(alloc: Global, a: &Answer) -> Result<bool, AllocError> {
 }
 
 // Whether it is a long run that stores two quotients at the pins.
-fn divides(a: &Answer) -> bool {
+fn stores_quotients(a: &Answer) -> bool {
     997 <= number_of(&a.written, "done ")
         && a.written.ends_with(
             b"\nmmio 2\narrived 0\nlamp off\nend running\ntrace\nst 1001200c ffffffff\nst 1001200c 00000007\n",
@@ -259,7 +259,7 @@ fn divides(a: &Answer) -> bool {
 fn plain_runs(alloc: Global) -> Result<bool, AllocError> {
     let nothing = does_nothing(&by_plain(alloc, SHORT_RUN, EMPTY.as_bytes())?);
     let ones = stores_ones(alloc, &by_plain(alloc, LONG_RUN, WRITES.as_bytes())?)?;
-    let quotients = divides(&by_plain(alloc, LONG_RUN, DIVIDES.as_bytes())?);
+    let quotients = stores_quotients(&by_plain(alloc, LONG_RUN, DIVIDES.as_bytes())?);
     Ok(nothing && ones && quotients)
 }
 
@@ -267,7 +267,7 @@ fn plain_runs(alloc: Global) -> Result<bool, AllocError> {
 fn bulb_runs<R: Threads + Wait + Sync>(rt: &R, alloc: Global) -> Result<bool, AllocError> {
     let nothing = does_nothing(&by_bulb(rt, alloc, SHORT_RUN, EMPTY.as_bytes())?);
     let ones = stores_ones(alloc, &by_bulb(rt, alloc, LONG_RUN, WRITES.as_bytes())?)?;
-    let quotients = divides(&by_bulb(rt, alloc, LONG_RUN, DIVIDES.as_bytes())?);
+    let quotients = stores_quotients(&by_bulb(rt, alloc, LONG_RUN, DIVIDES.as_bytes())?);
     Ok(nothing && ones && quotients)
 }
 
@@ -280,7 +280,7 @@ fn runs_programs(rt: HostRuntime) -> Result<(), Fail> {
 
 // What is told of a race: its status, and how many entries its log has, of all workers, of worker 0 and of worker 1.
 #[derive(Clone, Copy)]
-struct Race {
+struct Shares {
     status: u8,
     entries: usize,
     of_first: usize,
@@ -292,10 +292,10 @@ fn race<R: Threads + Wait + Sync>(
     rt: &R,
     alloc: Global,
     gate: &Alternation,
-) -> Result<Race, AllocError> {
+) -> Result<Shares, AllocError> {
     let words = ["bulb", "run", "--events", "1000", "--workers", "2", "--log"];
     let a = call_bulb(rt, alloc, &call_of(&words, EMPTY.as_bytes()), gate)?;
-    Ok(Race {
+    Ok(Shares {
         status: a.status,
         entries: a.entries,
         of_first: a.of_first,
@@ -307,13 +307,13 @@ fn race<R: Threads + Wait + Sync>(
 #[test]
 fn two_workers_race(rt: HostRuntime) -> Result<(), Fail> {
     let gate = Alternation::new();
-    let race = race(&rt, rt.alloc(), &gate)?;
+    let shares = race(&rt, rt.alloc(), &gate)?;
     assert!(rt; gate.held_both());
-    assert_eq!(rt; race.status, 0);
-    assert!(rt; race.of_first > 0);
-    assert!(rt; race.of_second > 0);
-    assert_eq!(rt; race.entries, 1000);
-    assert_eq!(rt; race.of_first.saturating_add(race.of_second), 1000);
+    assert_eq!(rt; shares.status, 0);
+    assert!(rt; shares.of_first > 0);
+    assert!(rt; shares.of_second > 0);
+    assert_eq!(rt; shares.entries, 1000);
+    assert_eq!(rt; shares.of_first.saturating_add(shares.of_second), 1000);
     Ok(())
 }
 
