@@ -8,9 +8,9 @@ use Rattle.std.specs.Str.Parse.{digits_value}
 use Rattle.std.proofs.lemmas.Bool.{and_parts, and_from, and_left, and_right, or_parts, cond-false, lt-ltb}
 use Rattle.std.proofs.lemmas.Bool.Decides.{nat_tests}
 use Rattle.std.proofs.lemmas.Fmt.{digits_decimal, digits_value-decimal, decimal_nonempty}
-use Rattle.std.proofs.lemmas.Str.Parse.{IsNumeralModel, numerals_by_value, tells_all_ascii_digits}
 use Rattle.lb_syntax.specs.Names.{Text, IsName, starts_name, is_reserved}
 use Rattle.lb_syntax.specs.WellFormed.{IsWord}
+use Rattle.lb_syntax.proofs.OpenTermLemmas.{decimal_numerals}
 use Rattle.lb_spelling.specs.Tokens.{Numeral, Named, begins_with, same, is_hex, value, spelling, fixed, lexeme}
 use Rattle.lb_spelling.proofs.Words.{is_based, number_decimal, same_is, word_parts, name_parts, name_word}
 use Rattle.lb_spelling.proofs.Lexing.{number_is, name_is}
@@ -80,10 +80,6 @@ digits_lexeme (a ∷ w) n all some is small =
     let valued = value_is (a ∷ w) hex ∙ is in
     let based : is_based 10 (a ∷ w) ≡ true = and_from (list_all (λ b. is_digit b 10) (a ∷ w)) (nat_lt (digits_value 10 (a ∷ w)) (2 ^ 32)) (ascii_digits (a ∷ w) all) (lt-ltb _ _ (omega (arith, is, small))) in
     number_is (a ∷ w) (number_decimal (a ∷ w) hex ∙ based) ∙ ap (λ (v : ℕ). Some (Numeral v)) valued
-
--- strings of decimal digits have the numbers that they denote
-decimal_numerals : IsNumeralModel (λ ds. all_ascii_digits ds ≡ true) (digits_value 10)
-decimal_numerals = numerals_by_value _ tells_all_ascii_digits
 
 pub decimal_digits : (n : ℕ) → IsWord n → all_ascii_digits (decimal n) ≡ true
 decimal_digits n h = digits_decimal decimal_numerals n (omega (arith, h))

@@ -4,13 +4,10 @@ use Rattle.std.specs.Prelude.{nat_le}
 use Rattle.std.proofs.lemmas.Bool.{and_from, le-leb}
 use Rattle.lb_syntax.specs.Names.{Text}
 use Rattle.lb_syntax.specs.Brackets.{open_after, most_open}
+use Rattle.lb_syntax.proofs.OpenLemmas.{least_open}
 use Rattle.lb_spelling.specs.Tokens.{Mode, Outside, Slash, Comment, mode_after}
 use Rattle.lb_spelling.specs.Places.{within}
 use Rattle.lb_printing.proofs.Spelled.{is_calm}
-
-least_open : (n : ℕ) (text : Text) → n ≤ most_open n text
-least_open n [] = omega arith
-least_open n (b ∷ text) = omega arith
 
 pub calm_within : (limit : ℕ) (text : Text) (m : Mode) (n : ℕ) → is_calm text m ≡ true → most_open n text ≤ limit → within limit text m n ≡ true
 calm_within limit [] m n c h = refl

@@ -9,3 +9,4 @@ pub mod Layouts
 pub mod Printing
 pub mod Brackets
 pub mod Parts
+pub mod InternalNesting
