@@ -1,96 +1,94 @@
-// A machine with the supplied image, and its steps.
-ghost use Rattle.std.specs.Prelude.{◌≤◌, IfOk, OnOk};
-ghost use Rattle.lb_board.specs.Script.{IsScript};
+// The supplied program on the machine, with three frames to come.
+ghost use Rattle.std.specs.Prelude.{IfOk};
 ghost use Rattle.lb_isa.specs.Runs.{IsBootable};
-ghost use Rattle.lb_machine.specs.Logs.{most_entries};
 
+use crate::stop::Stop;
+use lb_board_testkit::script;
 use lb_correctness::supplied_image;
+use lb_crew::serial;
+use lb_grammar::{Verdict, judge};
 use lb_image::Image;
 use lb_machine::Machine;
-use lb_trace::{Event, Frame, Kind};
-use std::alloc::{AllocError, AllocFailed, Global};
+use lb_trace::Event;
+use std::alloc::{AllocError, Global};
 
-// All kinds but Arrive.
-const KINDS: [Kind; 8] = [
-    Kind::Writeback,
-    Kind::Mmio,
-    Kind::Ram,
-    Kind::Execute,
-    Kind::Decode,
-    Kind::Fetch,
-    Kind::Boot,
-    Kind::Shift,
-];
+/// A frame that tells the lamp to be on, without its last byte; the whole of it; and the same by another protocol.
+const FRAMES: &str = "\
+ffffffffffff02000000000108004500001d00000000401100000a0000010a0000021000100100090000
+ffffffffffff02000000000108004500001d00000000401100000a0000010a000002100010010009000001
+ffffffffffff02000000000108004500001d00000000400600000a0000010a000002100010010009000001";
 
-/// The image of the supplied program.
+/// The most entries of the machine's log.
+const MOST_EVENTS: u32 = 2_000_000;
+
+/// What the machine did.
+#[derive(Clone, Copy)]
+pub struct Report {
+    pub lit: bool,
+    pub arrived: u32,
+    pub runs: bool,
+    /// The stores of the pins' output values, and the place of the first in the trace.
+    pub switches: usize,
+    pub place: usize,
+    /// The verdict on the trace, and on the trace with the other command in that store.
+    pub verdict: Verdict,
+    pub of_other: Verdict,
+}
+
+/// The supplied program after worker 0 alone has fired its machine.
+pub fn served(alloc: Global) -> Result<Report, Stop> {
+    let machine = finished(alloc)?;
+    let trace = machine.trace();
+    let place = trace.iter().position(is_switch).unwrap_or(trace.len());
+    let other = with_other_command(alloc, trace, place)?;
+    Ok(Report {
+        lit: machine.board().lamp(),
+        arrived: machine.board().arrived(),
+        runs: machine.core().halted().is_none(),
+        switches: trace.iter().filter(|event| is_switch(event)).count(),
+        place,
+        verdict: judge(trace),
+        of_other: judge(&other),
+    })
+}
+
+// The machine with the supplied image after worker 0 alone has fired it.
+fn finished(alloc: Global) -> Result<Machine, Stop> {
+    let image = image(alloc)?;
+    let frames = script(alloc, FRAMES)?;
+    let code = image.code.as_slice();
+    let booted = Machine::boot(alloc, code, image.entry, frames, MOST_EVENTS)?;
+    Ok(serial(booted, 0))
+}
+
+// The image of the supplied program.
 #[tactic(auto, using(crate::proofs::Bootable::bootable))]
-pub fn image(alloc: Global) -> Result<Image, AllocError>
+fn image(alloc: Global) -> Result<Image, AllocError>
     ensures { IfOk result (λ image. IsBootable image.code image.entry) }
 {
     supplied_image(alloc)
 }
 
-/// A frame of 43 bytes that tells the lamp to be on, or off.
-pub fn command(alloc: Global, on: bool) -> Result<Vec<u8>, AllocFailed<u8>> {
-    let mut bytes = Vec::new(alloc);
-    for place in 0..43u32 {
-        bytes.push(match place {
-            12 => 0x08,
-            14 => 0x45,
-            23 => 0x11,
-            42 => u8::from(on),
-            _ => 0,
-        })?;
-    }
-    Ok(bytes)
+// Whether the event is a store of the pins' output values.
+fn is_switch(event: &Event) -> bool {
+    matches!(
+        event,
+        Event::St {
+            addr: 0x1001_200C,
+            ..
+        }
+    )
 }
 
-/// A machine of the image before its first step, with this one frame to come, if it has 43 bytes.
-pub fn boot(alloc: Global, image: &Image, frame: Vec<u8>) -> Result<Machine, AllocError>
-    requires { IsBootable image.now.code image.now.entry }
-{
-    let mut frames = Vec::new(alloc);
-    if frame.len() == 43 {
-        frames.push(Frame::new(frame, false))?;
-    }
-    Machine::boot(alloc, image.code.as_slice(), image.entry, frames, 400_000)
-}
-
-/// Fires each kind but Arrive where it may be fired, so many times in turn.
-pub fn fire_rounds(machine: &mut Machine, rounds: u32) {
-    for _ in 0..rounds {
-        fire_round(machine);
-    }
-}
-
-// Fires each kind but Arrive where it may be fired.
-fn fire_round(machine: &mut Machine) {
-    for kind in KINDS {
-        let _ = machine.fire(0, kind);
-    }
-}
-
-/// The trace with bit 23 of the value of the first store to the lamp's pins flipped, and the place of
-/// that store, from 0; without such a store the trace as it is, and its length.
-pub fn with_the_other_value(
+// The trace with bit 23 of the value of the store at the place flipped.
+fn with_other_command(
     alloc: Global,
     trace: &[Event],
-) -> Result<(Vec<Event>, usize), AllocError> {
+    place: usize,
+) -> Result<Vec<Event>, AllocError> {
     let mut changed = Vec::from_slice(alloc, trace)?;
-    let place = trace
-        .iter()
-        .position(|event| {
-            matches!(
-                event,
-                Event::St {
-                    addr: 0x1001_200C,
-                    ..
-                }
-            )
-        })
-        .unwrap_or(trace.len());
     if let Some(Event::St { value, .. }) = changed.get_mut(place) {
         *value ^= 0x0080_0000;
     }
-    Ok((changed, place))
+    Ok(changed)
 }

@@ -1,7 +1,9 @@
-//! The image of the supplied program, and a machine that runs it. It has tests alone.
+//! The supplied program on the machine, and what `judge` says of its trace. It has tests alone.
 #![tactic(auto)]
 
 #[cfg(test)]
 mod lamp;
+#[cfg(test)]
+mod stop;
 #[cfg(test)]
 mod tests;

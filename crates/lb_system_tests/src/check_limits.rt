@@ -147,6 +147,17 @@ fn takes_64_open_brackets(rt: HostRuntime) -> Result<(), Fail> {
     assert!(rt; answers(rt.alloc(), &most, 0, "ok functions 2 words 946 stack 396\n")?);
     let past = repeated(rt.alloc(), "fn init() { x = ", "(", 64, "1")?;
     assert!(rt; answers(rt.alloc(), &past, 2, "text at 79 too-deep\n")?);
+    let opened = repeated(rt.alloc(), "fn init(){x=", "(", 64, "")?;
+    assert!(rt; answers(rt.alloc(), &opened, 2, "text at 75 too-deep\n")?);
+    Ok(())
+}
+
+#[test]
+fn takes_names_of_32_bytes(rt: HostRuntime) -> Result<(), Fail> {
+    let most = repeated(rt.alloc(), "fn init() { } fn loop() { } fn ", "a", 32, "() { }")?;
+    assert!(rt; answers(rt.alloc(), &most, 0, "ok functions 3 words 256 stack 136\n")?);
+    let past = repeated(rt.alloc(), "fn ", "a", 33, "")?;
+    assert!(rt; answers(rt.alloc(), &past, 2, "text at 35 name-too-long\n")?);
     Ok(())
 }
 

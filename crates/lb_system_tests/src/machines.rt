@@ -15,7 +15,7 @@ const DIVIDES: &str =
     "fn init() { MMIOWRITE(0x1001200C, (7 / 0)); MMIOWRITE(0x1001200C, (7 % 0)); } fn loop() { }";
 
 // The words behind the program's name, an input, the status and what is written.
-const ROWS: [(&str, &str, u8, &str); 23] = [
+const ROWS: [(&str, &str, u8, &str); 33] = [
     (
         "replay",
         "fn init() { } fn loop() { }\n%%\n%%\nF0B0D0",
@@ -88,6 +88,19 @@ const ROWS: [(&str, &str, u8, &str); 23] = [
         5,
         "line 3 malformed\n",
     ),
+    (
+        "run",
+        "fn init() { } fn loop() { }\n%%\nabc\n",
+        5,
+        "line 3 malformed\n",
+    ),
+    (
+        "run",
+        "fn init() { } fn loop() { }\n%%\n00\n%%\n",
+        5,
+        "section line 4\n",
+    ),
+    ("run", "fn 1\n%%\nabc\n", 2, "text at 3 unexpected\n"),
     ("run", "fn init() {\n%%\nffg0\n", 2, "text at 12 ended\n"),
     ("run", "fn init() { }\n%%\nffg0\n", 3, "check no-loop\n"),
     ("lamp", "ff\n%%\n", 5, "section line 2\n"),
@@ -114,6 +127,28 @@ const ROWS: [(&str, &str, u8, &str); 23] = [
         "leaves at 0\n",
     ),
     ("judge", "ST 10012038 0000003c", 5, "line 1 malformed\n"),
+    ("check", EMPTY, 0, "ok functions 2 words 176 stack 136\n"),
+    ("check", "", 3, "check no-init\n"),
+    ("check", WRITES, 0, "ok functions 2 words 204 stack 140\n"),
+    ("check", DIVIDES, 0, "ok functions 2 words 256 stack 144\n"),
+    (
+        "interp --events 3 --trace",
+        WRITES,
+        0,
+        "mmio 2\nend spent\ntrace\nst 1001200c 00000001\nst 1001200c 00000001\n",
+    ),
+    (
+        "interp --events 1 --trace",
+        DIVIDES,
+        0,
+        "mmio 2\nend spent\ntrace\nst 1001200c ffffffff\nst 1001200c 00000007\n",
+    ),
+    (
+        "isa --events 100000",
+        DIVIDES,
+        0,
+        "done 100000\nmmio 2\nend running\n",
+    ),
 ];
 
 // The frames of the lamp: to switch on, the same without its last byte, the same by another protocol, and one to switch
@@ -317,15 +352,26 @@ fn two_workers_race(rt: HostRuntime) -> Result<(), Fail> {
     Ok(())
 }
 
+// Whether both calls do the same without a frame, and with one.
+fn both_are_alike<R: Threads + Wait + Sync>(
+    rt: &R,
+    alloc: Global,
+    line: &str,
+) -> Result<bool, AllocError> {
+    let with_frame = format!(in alloc; "{EMPTY}\n%%\n{ON}")?;
+    let alone = are_alike(rt, alloc, line, EMPTY.as_bytes())?;
+    Ok(alone && are_alike(rt, alloc, line, with_frame.as_bytes())?)
+}
+
 // Whether both calls do the same, and no frame arrives.
 fn are_alike<R: Threads + Wait + Sync>(
     rt: &R,
     alloc: Global,
     line: &str,
+    input: &[u8],
 ) -> Result<bool, AllocError> {
-    let input = format!(in alloc; "{EMPTY}\n%%\n{ON}")?;
-    let plain = by_plain(alloc, line, input.as_bytes())?;
-    let raced = by_bulb(rt, alloc, line, input.as_bytes())?;
+    let plain = by_plain(alloc, line, input)?;
+    let raced = by_bulb(rt, alloc, line, input)?;
     Ok(
         plain.status == 0
             && has_line(&plain.written, "arrived 0")
@@ -340,7 +386,7 @@ fn runs_alike_by_one_worker(rt: HostRuntime) -> Result<(), Fail> {
         "run --events 5000 --workers 1 --log",
         "run --events 5000 --workers 1 --seed 9 --log --trace",
     ] {
-        assert!(rt; are_alike(&rt, rt.alloc(), line)?, "of {line}");
+        assert!(rt; both_are_alike(&rt, rt.alloc(), line)?, "of {line}");
     }
     Ok(())
 }

@@ -1,6 +1,6 @@
 // What `interp` and `isa` report, and what the modes that compile refuse.
 use lb_bulb::source;
-use lb_testkit::call::{Answer, call_plain, ends, whole, words_of_line};
+use lb_testkit::call::{Answer, call_plain, whole, words_of_line};
 use std::alloc::{AllocError, Global};
 use std::test::Fail;
 
@@ -143,33 +143,6 @@ const ROWS: [(&str, &str, u8, &str); 25] = [
     ),
 ];
 
-// Words that are no request.
-const WORDS: [&[&str]; 21] = [
-    &["bulb", ""],
-    &["bulb", "run", "--workers", "9"],
-    &["bulb", "Check"],
-    &["bulb", "PRINT"],
-    &["bulb", "checks"],
-    &["bulb", "prin"],
-    &["bulb", " check"],
-    &["bulb", "--help"],
-    &["check", "bulb"],
-    &["bulb", "check", "x"],
-    &["bulb", "check", ""],
-    &["bulb", "check", "1"],
-    &["bulb", "print", "print"],
-    &["bulb", "print", "1"],
-    &["bulb", "Check", "1"],
-    &["bulb", "", "check"],
-    &["bulb", "lamp", "lamp"],
-    &["bulb", "run", "run"],
-    &["bulb", "run", "01"],
-    &["bulb", "run", "--events"],
-    &["bulb", "run", "--events", "0"],
-];
-
-const USAGE: &str = "usage: bulb MODE [--events N] [--workers W] [--seed S] [--log] [--trace]\n";
-
 // What the program answers to words with a blank between them.
 fn answer(alloc: Global, line: &str, input: &[u8]) -> Result<Answer, AllocError> {
     let words = words_of_line(alloc, line)?;
@@ -270,17 +243,6 @@ fn compiles_images_that_list_alike(rt: HostRuntime) -> Result<(), Fail> {
         source(),
     ] {
         assert!(rt; lists_alike(rt.alloc(), input)?);
-    }
-    Ok(())
-}
-
-#[test]
-fn refuses_words(rt: HostRuntime) -> Result<(), Fail> {
-    for words in WORDS {
-        assert!(rt;
-            ends(rt.alloc(), &whole(words, b""), 1, USAGE.as_bytes())?,
-            "of {words:?}"
-        );
     }
     Ok(())
 }

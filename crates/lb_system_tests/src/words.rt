@@ -1,5 +1,5 @@
 // Words with options, which `check` takes and does nothing with, and the forms of the number of events, which `run` makes.
-use lb_testkit::call::{Answer, call_plain, whole, words_of_line};
+use lb_testkit::call::{Answer, call_plain, ends, whole, words_of_line};
 use std::alloc::{AllocError, Global};
 use std::test::Fail;
 
@@ -22,12 +22,24 @@ const REFUSED: &str = "--help
 --events 5
 isa --events 0
 isa isa
+lamp lamp
 run 1000
+run 01
 run run
+run --events
+run --events 0
+run --workers 9
 run --events 5 --events 5
 check check
 check print
 check x
+check 1
+print print
+print 1
+Check 1
+PRINT
+checks
+prin
 check --events 5 --events 5
 check --events 0
 check --events 4000001
@@ -49,6 +61,15 @@ check -- --log
 help
 lamp judge
 Check";
+
+// Words that are refused and no line has: empty ones, one with a blank, and a mode before another name.
+const REFUSED_WORDS: [&[&str]; 5] = [
+    &["bulb", ""],
+    &["bulb", "", "check"],
+    &["bulb", "check", ""],
+    &["bulb", " check"],
+    &["check", "bulb"],
+];
 
 // What the program answers to the words of a line.
 fn answer(alloc: Global, line: &str) -> Result<Answer, AllocError> {
@@ -95,5 +116,16 @@ fn takes_a_number_with_its_sign(rt: HostRuntime) -> Result<(), Fail> {
             "run --events 5 --workers 1"
         )?
     );
+    Ok(())
+}
+
+#[test]
+fn refuses_words_of_no_mode(rt: HostRuntime) -> Result<(), Fail> {
+    for words in REFUSED_WORDS {
+        assert!(rt;
+            ends(rt.alloc(), &whole(words, EMPTY), 1, USAGE.as_bytes())?,
+            "of {words:?}"
+        );
+    }
     Ok(())
 }

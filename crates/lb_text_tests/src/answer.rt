@@ -18,8 +18,8 @@ impl From<AllocError> for NoAnswer {
     }
 }
 
-// The most bytes of a text.
-const MOST_BYTES: usize = 1_048_576;
+/// The most bytes of a text.
+pub const MOST_BYTES: usize = 1_048_576;
 
 /// Asserts that this is told of the text.
 pub fn expect(rt: &impl Abort, alloc: Global, text: &[u8], want: &[u8]) -> Result<(), NoAnswer> {

@@ -5,6 +5,8 @@
 #[cfg(test)]
 mod answer;
 #[cfg(test)]
+mod brackets;
+#[cfg(test)]
 mod bytes;
 #[cfg(test)]
 mod grammar;
