@@ -17,11 +17,11 @@ use Rattle.lb_grammar.specs.declared.round.Rounding.{Rounding}
 use Rattle.lb_grammar.specs.declared.round.Rounding.TheVariants.{Info, Status, Words, Loading, Storing}
 use Rattle.lb_grammar.specs.Forms.{Lists, Is}
 use Rattle.lb_grammar.specs.Grammar.{txdata, rxdata, csmode, output_val, iof_en, output_en, byte_order, is_ready, waiting, word_count, with_command, read_bytes, write_bytes, rx_fifo_inf, rx_status_fifo, rx_data_fifo, byte_test, hw_cfg, mac_csr_data, mac_csr_cmd, xchg}
-use Rattle.lb_grammar.specs.Machine.{again, inside, Reads, Nowhere}
-use Rattle.lb_grammar.specs.Exchanging.{exchange_step}
-use Rattle.lb_grammar.specs.Transferring.{pushed, next_byte, after_answer, transfer_step}
-use Rattle.lb_grammar.specs.Booting.{after_byte_test, after_write, after_busy, boot_step}
-use Rattle.lb_grammar.specs.Rounding.{nothing_seen, see, looks_valid, command_seen, words_left, after_info, after_status, after_word, round_step}
+use Rattle.lb_grammar.specs.InternalMachine.{again, inside, Reads, Nowhere}
+use Rattle.lb_grammar.specs.InternalExchanging.{exchange_step}
+use Rattle.lb_grammar.specs.InternalTransferring.{pushed, next_byte, after_answer, transfer_step}
+use Rattle.lb_grammar.specs.InternalBooting.{after_byte_test, after_write, after_busy, boot_step}
+use Rattle.lb_grammar.specs.InternalRounding.{nothing_seen, see, looks_valid, command_seen, words_left, after_info, after_status, after_word, round_step}
 use Rattle.lb_grammar.proofs.Followed.{joined}
 use Rattle.lb_grammar.proofs.Reading.{store_same, inside_same}
 use Rattle.lb_grammar.proofs.TransferReads.{Sends, closing, sends_same, steps}

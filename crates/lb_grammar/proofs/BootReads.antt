@@ -12,9 +12,9 @@ use Rattle.lb_grammar.specs.declared.boot.Booting.{Booting}
 use Rattle.lb_grammar.specs.declared.boot.Booting.TheVariants.{FirstPin, SecondPin, ByteTest, HwCfg, MacData, MacCmd, MacBusy}
 use Rattle.lb_grammar.specs.Forms.{Form, One, Sequence, Exactly, Any, at_most, Lists}
 use Rattle.lb_grammar.specs.Grammar.{iof_en, output_en, byte_test, hw_cfg, mac_csr_cmd, mac_csr_data, byte_order, is_word, is_busy, is_ready, read_bytes, write_bytes, rd, no_rd, no_wr, pins, vain, busy, found, wr_hw_cfg, wr_mac_data, wr_mac_cmd, set_up, boot, no_boot}
-use Rattle.lb_grammar.specs.Machine.{again, Reads, Nowhere}
-use Rattle.lb_grammar.specs.Transferring.{transfer_step}
-use Rattle.lb_grammar.specs.Booting.{after_byte_test, after_write, after_busy, boot_step}
+use Rattle.lb_grammar.specs.InternalMachine.{again, Reads, Nowhere}
+use Rattle.lb_grammar.specs.InternalTransferring.{transfer_step}
+use Rattle.lb_grammar.specs.InternalBooting.{after_byte_test, after_write, after_busy, boot_step}
 use Rattle.lb_grammar.proofs.Same.{Same, Or, same, chain, or_same, swap, bracket}
 use Rattle.lb_grammar.proofs.Followed.{Followed, followed_same, followed_or, tries}
 use Rattle.lb_grammar.proofs.Reading.{store_same, inside_same}

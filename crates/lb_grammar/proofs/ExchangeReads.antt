@@ -9,8 +9,8 @@ use Rattle.lb_grammar.specs.declared.exchange.Exchange.{Exchange}
 use Rattle.lb_grammar.specs.declared.exchange.Exchange.TheVariants.{Room, Sending, Answer}
 use Rattle.lb_grammar.specs.Forms.{Form, One, Sequence, Exactly, at_most, Lists}
 use Rattle.lb_grammar.specs.Grammar.{txdata, rxdata, is_byte, is_ready, is_busy, busy_load, ready_load, answer_load, sent, xchg, no_xchg}
-use Rattle.lb_grammar.specs.Machine.{again, Reads, Nowhere}
-use Rattle.lb_grammar.specs.Exchanging.{polled, exchange_step}
+use Rattle.lb_grammar.specs.InternalMachine.{again, Reads, Nowhere}
+use Rattle.lb_grammar.specs.InternalExchanging.{polled, exchange_step}
 use Rattle.lb_grammar.proofs.Same.{Same, Or, Some as ForSome, same, chain, or_same, swap, bracket}
 use Rattle.lb_grammar.proofs.Followed.{Followed, followed_same, followed_or, followed_some, tries}
 use Rattle.lb_grammar.proofs.Reading.{equal, equals_itself, store_same}

@@ -9,8 +9,8 @@ use Rattle.lb_grammar.specs.declared.judging.Judging.{Judging}
 use Rattle.lb_grammar.specs.declared.judging.Judging.TheVariants.{Boot}
 use Rattle.lb_grammar.specs.Forms.{Begins}
 use Rattle.lb_grammar.specs.Grammar.{good}
-use Rattle.lb_grammar.specs.Machine.{runs}
-use Rattle.lb_grammar.specs.Judging.{NoEnd, judge_step, judged, progress_of, rounds_of}
+use Rattle.lb_grammar.specs.InternalMachine.{runs}
+use Rattle.lb_grammar.specs.InternalJudging.{NoEnd, judge_step, judged, progress_of, rounds_of}
 use Rattle.lb_grammar.specs.Rounds.{HasRounds}
 use Rattle.lb_grammar.proofs.JudgeLemmas.{begins_good, off_is_no_prefix}
 use Rattle.lb_grammar.proofs.RoundLemmas.{has_rounds}

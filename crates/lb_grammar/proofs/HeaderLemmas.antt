@@ -6,7 +6,7 @@ use Rattle.lb_word.specs.Bytes.{bytes_of_word}
 use Rattle.lb_grammar.specs.declared.packet.Header.{Header}
 use Rattle.lb_grammar.specs.Packet.{is_udp, command}
 use Rattle.lb_grammar.specs.Grammar.{length_of, has_error, word_count, packet_bytes, is_valid_packet}
-use Rattle.lb_grammar.specs.Rounding.{nothing_seen, see_all, looks_udp, looks_valid, command_seen}
+use Rattle.lb_grammar.specs.InternalRounding.{nothing_seen, see_all, looks_udp, looks_valid, command_seen}
 
 abbrev all_bytes : List ℕ → List ℕ
 all_bytes ws = flat_map bytes_of_word ws

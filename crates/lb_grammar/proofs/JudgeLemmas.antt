@@ -14,10 +14,10 @@ use Rattle.lb_grammar.specs.declared.judging.Judging.{Judging}
 use Rattle.lb_grammar.specs.declared.judging.Judging.TheVariants.{Boot, Between, Round, Still}
 use Rattle.lb_grammar.specs.Forms.{Form, Sequence, Exactly, any_number, Lists, Is, Begins}
 use Rattle.lb_grammar.specs.Grammar.{boot, no_boot, round, no_round, good}
-use Rattle.lb_grammar.specs.Machine.{inside, runs, Reads, Nowhere}
-use Rattle.lb_grammar.specs.Booting.{boot_step}
-use Rattle.lb_grammar.specs.Rounding.{round_step}
-use Rattle.lb_grammar.specs.Judging.{NoEnd, after_boot, after_round, judge_step, judged, rounds_of}
+use Rattle.lb_grammar.specs.InternalMachine.{inside, runs, Reads, Nowhere}
+use Rattle.lb_grammar.specs.InternalBooting.{boot_step}
+use Rattle.lb_grammar.specs.InternalRounding.{round_step}
+use Rattle.lb_grammar.specs.InternalJudging.{NoEnd, after_boot, after_round, judge_step, judged, rounds_of}
 use Rattle.lb_grammar.proofs.PrefixLemmas.{begins, extends}
 use Rattle.lb_grammar.proofs.EndLemmas.{good_ends}
 use Rattle.lb_grammar.proofs.Same.{Same, Or, Some as ForSome, chain}

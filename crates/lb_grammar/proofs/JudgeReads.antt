@@ -12,10 +12,10 @@ use Rattle.lb_grammar.specs.declared.judging.Judging.{Judging}
 use Rattle.lb_grammar.specs.declared.judging.Judging.TheVariants.{Boot, Between, Round, Still}
 use Rattle.lb_grammar.specs.Forms.{Exactly, Lists, Concat, Is}
 use Rattle.lb_grammar.specs.Grammar.{boot, no_boot, round, no_round}
-use Rattle.lb_grammar.specs.Machine.{inside, Reads, Nowhere}
-use Rattle.lb_grammar.specs.Booting.{boot_step}
-use Rattle.lb_grammar.specs.Rounding.{round_step}
-use Rattle.lb_grammar.specs.Judging.{NoEnd, after_boot, after_round, judge_step}
+use Rattle.lb_grammar.specs.InternalMachine.{inside, Reads, Nowhere}
+use Rattle.lb_grammar.specs.InternalBooting.{boot_step}
+use Rattle.lb_grammar.specs.InternalRounding.{round_step}
+use Rattle.lb_grammar.specs.InternalJudging.{NoEnd, after_boot, after_round, judge_step}
 use Rattle.lb_grammar.proofs.Same.{Same, Or, Some as ForSome, chain, or_same}
 use Rattle.lb_grammar.proofs.Followed.{Followed, AtEnd, to_parts, from_parts, onward, followed_same, no_times, one_time_more, alone}
 use Rattle.lb_grammar.proofs.Reading.{inside_same}

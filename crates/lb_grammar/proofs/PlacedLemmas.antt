@@ -18,12 +18,12 @@ use Rattle.lb_grammar.specs.declared.round.Rounding.TheVariants.{Info, Status, W
 use Rattle.lb_grammar.specs.declared.judging.Judging.{Judging}
 use Rattle.lb_grammar.specs.declared.judging.Judging.TheVariants.{Boot, Between, Round, Still}
 use Rattle.lb_grammar.specs.Grammar.{csmode, output_val, iof_en, output_en, byte_order, is_ready, is_word, waiting, word_count, with_command, read_bytes, write_bytes, rx_fifo_inf, rx_status_fifo, rx_data_fifo, byte_test, hw_cfg, mac_csr_data, mac_csr_cmd}
-use Rattle.lb_grammar.specs.Machine.{again, inside, runs}
-use Rattle.lb_grammar.specs.Exchanging.{exchange_step}
-use Rattle.lb_grammar.specs.Transferring.{pushed, next_byte, after_answer, transfer_step}
-use Rattle.lb_grammar.specs.Booting.{stored, after_byte_test, after_write, after_busy, boot_step}
-use Rattle.lb_grammar.specs.Rounding.{nothing_seen, see, looks_valid, command_seen, words_left, after_info, after_status, after_word, round_step}
-use Rattle.lb_grammar.specs.Judging.{NoEnd, after_boot, after_round, judge_step}
+use Rattle.lb_grammar.specs.InternalMachine.{again, inside, runs}
+use Rattle.lb_grammar.specs.InternalExchanging.{exchange_step}
+use Rattle.lb_grammar.specs.InternalTransferring.{pushed, next_byte, after_answer, transfer_step}
+use Rattle.lb_grammar.specs.InternalBooting.{stored, after_byte_test, after_write, after_busy, boot_step}
+use Rattle.lb_grammar.specs.InternalRounding.{nothing_seen, see, looks_valid, command_seen, words_left, after_info, after_status, after_word, round_step}
+use Rattle.lb_grammar.specs.InternalJudging.{NoEnd, after_boot, after_round, judge_step}
 use Rattle.lb_grammar.proofs.AliveLemmas.{IsPlaced, IsBootPlaced, IsRoundPlaced}
 
 -- a state that is led to is of the kind

@@ -6,7 +6,7 @@ use Rattle.lb_trace.specs.declared.Event.TheVariants.{Ld, St}
 use Rattle.lb_grammar.specs.declared.progress.Progress.{Progress}
 use Rattle.lb_grammar.specs.declared.progress.Progress.TheVariants.{Within, Done, Off}
 use Rattle.lb_grammar.specs.Forms.{One, Lists}
-use Rattle.lb_grammar.specs.Machine.{inside, Reads, Nowhere}
+use Rattle.lb_grammar.specs.InternalMachine.{inside, Reads, Nowhere}
 use Rattle.lb_grammar.proofs.Same.{Same}
 use Rattle.lb_grammar.proofs.Followed.{Followed}
 

@@ -7,8 +7,8 @@ use Rattle.lb_grammar.specs.declared.judging.Judging.{Judging}
 use Rattle.lb_grammar.specs.declared.judging.Judging.TheVariants.{Boot, Between, Round, Still}
 use Rattle.lb_grammar.specs.Forms.{Sequence, Exactly, Lists, Concat, Is}
 use Rattle.lb_grammar.specs.Grammar.{boot, no_boot, round, no_round, good}
-use Rattle.lb_grammar.specs.Machine.{runs}
-use Rattle.lb_grammar.specs.Judging.{judge_step, judged, rounds_of}
+use Rattle.lb_grammar.specs.InternalMachine.{runs}
+use Rattle.lb_grammar.specs.InternalJudging.{judge_step, judged, rounds_of}
 use Rattle.lb_grammar.specs.Rounds.{BeginsWithRounds, HasRounds, Reading, all_whole, round_given_up, boot_given_up, RoundsLaw}
 use Rattle.lb_grammar.proofs.Same.{Or, Some as ForSome}
 use Rattle.lb_grammar.proofs.Followed.{Followed, AtEnd, to_parts, onward, alone}
@@ -90,7 +90,7 @@ from_reading _ l (boot_given_up h) = (judge_same (This 0) (This 0)).from l (inr 
 joined_runs : (front rest : List Event) (s q : Judging) → judged front ≡ Within s → judged (front ++ rest) ≡ Within q → runs judge_step (Within s) rest ≡ Within q
 joined_runs front rest s q e f = by_start front (Boot FirstPin) e f
   where
-    open_end : (l : List Event) (p : Rattle.lb_grammar.specs.declared.progress.Progress.Progress Judging Rattle.lb_grammar.specs.Judging.NoEnd) → runs judge_step p l ≡ Within s → runs judge_step p (l ++ rest) ≡ Within q → runs judge_step (Within s) rest ≡ Within q
+    open_end : (l : List Event) (p : Rattle.lb_grammar.specs.declared.progress.Progress.Progress Judging Rattle.lb_grammar.specs.InternalJudging.NoEnd) → runs judge_step p l ≡ Within s → runs judge_step p (l ++ rest) ≡ Within q → runs judge_step (Within s) rest ≡ Within q
     open_end [] p e f = subst (λ r. runs judge_step r rest ≡ Within q) e f
     open_end (x ∷ l) (Within t) e f = open_end l (judge_step t x) e f
     open_end (x ∷ l) (Rattle.lb_grammar.specs.declared.progress.Progress.TheVariants.Done y) e f = elim y [ ]

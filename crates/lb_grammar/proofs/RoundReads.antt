@@ -15,9 +15,9 @@ use Rattle.lb_grammar.specs.declared.round.Rounding.TheVariants.{Info, Status, W
 use Rattle.lb_grammar.specs.Forms.{Form, One, Sequence, Any, AnyList, fewer_than, Lists}
 use Rattle.lb_grammar.specs.Packet.{command}
 use Rattle.lb_grammar.specs.Grammar.{output_val, rx_data_fifo, rx_status_fifo, rx_fifo_inf, is_word, waiting, word_count, has_words, fits, packet_bytes, is_valid_packet, with_command, read_bytes, rd, no_rd, empty, filled, words, packet, no_words, switch, round, no_round}
-use Rattle.lb_grammar.specs.Machine.{Reads, Nowhere}
-use Rattle.lb_grammar.specs.Transferring.{transfer_step}
-use Rattle.lb_grammar.specs.Rounding.{nothing_seen, see, see_all, command_seen, words_left, after_info, after_status, after_word, round_step}
+use Rattle.lb_grammar.specs.InternalMachine.{Reads, Nowhere}
+use Rattle.lb_grammar.specs.InternalTransferring.{transfer_step}
+use Rattle.lb_grammar.specs.InternalRounding.{nothing_seen, see, see_all, command_seen, words_left, after_info, after_status, after_word, round_step}
 use Rattle.lb_grammar.proofs.Same.{Same, Or, Some as ForSome, SomeList, same, back, chain, or_same, swap, bracket, some_same, some_or, list_same, or_nothing}
 use Rattle.lb_grammar.proofs.Followed.{Followed, onward, followed_same, followed_or, followed_some, followed_list, list_out, some_out, fewer_than_more, fewer_than_none}
 use Rattle.lb_grammar.proofs.Reading.{equal, store_same, inside_same}

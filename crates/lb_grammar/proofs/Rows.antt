@@ -7,7 +7,7 @@ use Rattle.lb_grammar.specs.declared.transfer.Transfer.TheVariants.{Sending}
 use Rattle.lb_grammar.specs.declared.boot.Booting.TheVariants.{ByteTest}
 use Rattle.lb_grammar.specs.declared.progress.Progress.TheVariants.{Within, Off}
 use Rattle.lb_grammar.specs.declared.judging.Judging.TheVariants.{Boot, Still}
-use Rattle.lb_grammar.specs.Judging.{judged}
+use Rattle.lb_grammar.specs.InternalJudging.{judged}
 
 abbrev pins_then : List Event → List Event
 pins_then l = St 0x10012038 0x3C ∷ St 0x10012008 0x800000 ∷ l

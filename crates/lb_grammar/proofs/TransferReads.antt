@@ -12,9 +12,9 @@ use Rattle.lb_grammar.specs.declared.transfer.Transfer.{Transfer}
 use Rattle.lb_grammar.specs.declared.transfer.Transfer.TheVariants.{Opening, Sending, Closing}
 use Rattle.lb_grammar.specs.Forms.{Form, One, Sequence, Lists}
 use Rattle.lb_grammar.specs.Grammar.{csmode, is_byte, is_word, xchg, no_xchg, free_xchg, free_xchgs, answers, broken_off, read_head, read_bytes, write_bytes, rd, no_rd, wr, no_wr}
-use Rattle.lb_grammar.specs.Machine.{inside, Reads, Nowhere}
-use Rattle.lb_grammar.specs.Exchanging.{exchange_step}
-use Rattle.lb_grammar.specs.Transferring.{pushed, next_byte, after_answer, transfer_step}
+use Rattle.lb_grammar.specs.InternalMachine.{inside, Reads, Nowhere}
+use Rattle.lb_grammar.specs.InternalExchanging.{exchange_step}
+use Rattle.lb_grammar.specs.InternalTransferring.{pushed, next_byte, after_answer, transfer_step}
 use Rattle.lb_grammar.proofs.Same.{Same, Or, Some as ForSome, same, back, chain, or_same, bracket, some_same, some_or, or_nothing}
 use Rattle.lb_grammar.proofs.Followed.{Followed, onward, followed_same, followed_or, followed_some, some_out}
 use Rattle.lb_grammar.proofs.Reading.{store_same, inside_same}

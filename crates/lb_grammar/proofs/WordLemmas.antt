@@ -4,7 +4,7 @@ use Rattle.std.proofs.lemmas.Bool.Decides.{nat_tests}
 use Rattle.lb_word.specs.Bytes.{bytes_of_word, word_of_bytes}
 use Rattle.lb_word.proofs.ByteLemmas.{bytes_of_word-word_of_bytes, word_of_bytes-bytes_of_word}
 use Rattle.lb_grammar.specs.Grammar.{is_byte, is_word}
-use Rattle.lb_grammar.specs.Transferring.{pushed}
+use Rattle.lb_grammar.specs.InternalTransferring.{pushed}
 
 pub below_256 : (r : ℕ) → IsTrue (is_byte r) → r < 256
 below_256 r h = grind (arith, nat_tests)

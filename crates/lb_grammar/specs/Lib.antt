@@ -3,9 +3,9 @@ pub mod Packet
 pub mod Grammar
 pub mod Prefixes
 pub mod Rounds
-pub mod Machine
-pub mod Exchanging
-pub mod Transferring
-pub mod Booting
-pub mod Rounding
-pub mod Judging
+pub mod InternalMachine
+pub mod InternalExchanging
+pub mod InternalTransferring
+pub mod InternalBooting
+pub mod InternalRounding
+pub mod InternalJudging

@@ -1,6 +1,6 @@
 // Boot: the pins are set, the network chip is found and set up.
 ghost use Rattle.std.specs.Prelude.{◌≡◌};
-ghost use Rattle.lb_grammar.specs.Booting.{after_busy, after_byte_test, after_write, boot_step, stored};
+ghost use Rattle.lb_grammar.specs.InternalBooting.{after_busy, after_byte_test, after_write, boot_step, stored};
 
 use crate::exchange::TRIES;
 use crate::progress::{Ending, Progress};

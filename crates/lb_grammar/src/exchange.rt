@@ -1,6 +1,6 @@
 // The exchange of a byte over the serial bus.
 ghost use Rattle.std.specs.Prelude.{◌≡◌};
-ghost use Rattle.lb_grammar.specs.Exchanging.{exchange_step};
+ghost use Rattle.lb_grammar.specs.InternalExchanging.{exchange_step};
 
 use crate::progress::Progress;
 use lb_trace::Event;

@@ -1,9 +1,9 @@
 // The whole grammar: boot, and then rounds.
 ghost use Rattle.std.specs.Prelude.{◌≡◌, ◌+◌, ◌^◌, ◌<◌, ◌≤◌, IfSome};
 ghost use Rattle.lb_grammar.specs.declared.judging.Judging.TheVariants.{Boot};
-ghost use Rattle.lb_grammar.specs.Machine.{inside};
-ghost use Rattle.lb_grammar.specs.Booting.{boot_step};
-ghost use Rattle.lb_grammar.specs.Judging.{after_boot, judge_step, progress_of, rounds_of};
+ghost use Rattle.lb_grammar.specs.InternalMachine.{inside};
+ghost use Rattle.lb_grammar.specs.InternalBooting.{boot_step};
+ghost use Rattle.lb_grammar.specs.InternalJudging.{after_boot, judge_step, progress_of, rounds_of};
 
 use crate::boot::Booting;
 use crate::progress::{Ending, Progress};

@@ -2,7 +2,7 @@
 ghost use Rattle.std.specs.Prelude.{◌≡◌, ◌≤◌, true, length};
 ghost use Rattle.lb_grammar.specs.Grammar.{waiting, with_command, word_count};
 ghost use Rattle.lb_grammar.specs.Packet.{command_of, is_valid};
-ghost use Rattle.lb_grammar.specs.Rounding.{command_seen, looks_udp, looks_valid, see};
+ghost use Rattle.lb_grammar.specs.InternalRounding.{command_seen, looks_udp, looks_valid, see};
 
 /// The command of a packet of these bytes, from the frame's destination address on, where the packet counts: the
 /// network chip marks no `error`, the length is 43 to 1,520, the bytes 12 to 14 say that it is IPv4 without

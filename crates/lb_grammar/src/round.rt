@@ -1,7 +1,7 @@
 // A round: a poll, and the packet that waits, and the switch of the lamp where the packet counts.
 ghost use Rattle.std.specs.Prelude.{◌≡◌};
 ghost use Rattle.lb_grammar.specs.declared.round.Rounding.TheVariants.{Storing};
-ghost use Rattle.lb_grammar.specs.Rounding.{after_info, after_status, after_word, round_step, words_left};
+ghost use Rattle.lb_grammar.specs.InternalRounding.{after_info, after_status, after_word, round_step, words_left};
 
 use crate::packet::{Header, waiting, with_command, word_count};
 use crate::progress::{Ending, Progress};

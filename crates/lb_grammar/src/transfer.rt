@@ -2,7 +2,7 @@
 // is copied with each event.
 ghost use Rattle.std.specs.Prelude.{◌≡◌, ◌≤◌, length};
 ghost use Rattle.lb_grammar.specs.Grammar.{read_bytes, write_bytes};
-ghost use Rattle.lb_grammar.specs.Transferring.{next_byte, transfer_step};
+ghost use Rattle.lb_grammar.specs.InternalTransferring.{next_byte, transfer_step};
 
 use crate::exchange::{Exchange, TRIES};
 use crate::progress::Progress;

@@ -10,7 +10,7 @@ use Rattle.lb_outcome.specs.Outcomes.{plain}
 use Rattle.lb_isa.specs.declared.processor.Stepped.{Stepped}
 use Rattle.lb_isa.specs.State.{IsaContent, ProcessorState, most_words, processor_of}
 use Rattle.lb_isa.specs.Moves.{after, answer, goes_on}
-use Rattle.lb_isa.specs.Steps.{instruction_outcome}
+use Rattle.lb_isa.specs.InternalSteps.{instruction_outcome}
 
 -- a code of at most so many words, and the instruction of each
 abbrev pub IsPredecoded : List ℕ → List (Option Instr) → Type 0

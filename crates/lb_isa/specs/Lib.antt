@@ -3,4 +3,4 @@ pub mod Laws
 pub mod Moves
 pub mod Runs
 pub mod State
-pub mod Steps
+pub mod InternalSteps

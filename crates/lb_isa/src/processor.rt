@@ -9,7 +9,7 @@ ghost use Rattle.lb_isa.specs.declared.processor.Stepped.TheVariants.{Committed}
 ghost use Rattle.lb_isa.specs.State.{processor_of};
 ghost use Rattle.lb_isa.specs.Moves.{IsRefused, after_step, answer, next_answer};
 ghost use Rattle.lb_isa.specs.Runs.{IsBootable, booted};
-ghost use Rattle.lb_isa.specs.Steps.{instruction_outcome};
+ghost use Rattle.lb_isa.specs.InternalSteps.{instruction_outcome};
 ghost use Rattle.lb_isa.specs.InternalExecution.{after_branch, after_doing, after_giving, after_jump};
 ghost use Rattle.lb_isa.specs.InternalExecution.{after_load, after_outcome, after_write, answer_to, with_pc};
 

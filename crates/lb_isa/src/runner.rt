@@ -41,7 +41,7 @@ struct Runner<'a> {
 }
 
 impl<'a> Model for Runner<'a> {
-    ghost use Rattle.lb_isa.specs.Steps.{RunnerContent};
+    ghost use Rattle.lb_isa.specs.InternalSteps.{RunnerContent};
 
     ghost Value = { RunnerContent };
 
@@ -56,7 +56,7 @@ impl<'a> Model for Runner<'a> {
 impl<'a> Runner<'a> {
     ghost use Rattle.std.specs.Prelude.{◌≡◌, ◌<◌, ◌≤◌, length, IfOk};
     ghost use Rattle.lb_isa.specs.Runs.{IsBootable, start};
-    ghost use Rattle.lb_isa.specs.Steps.{Advances, ended_run, run_of};
+    ghost use Rattle.lb_isa.specs.InternalSteps.{Advances, ended_run, run_of};
 
     // A run before its first instruction. Fails only for want of memory.
     fn boot(

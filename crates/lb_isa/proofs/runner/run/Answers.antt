@@ -3,7 +3,7 @@ use Rattle.lb_steps.proofs.RunLemmas.{run-still}
 use Rattle.lb_isa.specs.State.{RunState}
 use Rattle.lb_isa.specs.Moves.{move}
 use Rattle.lb_isa.specs.Runs.{ending_after}
-use Rattle.lb_isa.specs.Steps.{Advances, RunnerContent, run_of}
+use Rattle.lb_isa.specs.InternalSteps.{Advances, RunnerContent, run_of}
 use Rattle.lb_isa.proofs.RunLemmas.{run_moves_on, ending_after_fewer}
 use Rattle.lb_isa.proofs.MoveLemmas.{move_committed}
 use Rattle.lb_isa.proofs.runner.run.Goals as goal

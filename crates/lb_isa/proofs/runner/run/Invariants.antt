@@ -2,7 +2,7 @@ use Rattle.std.proofs.Common.{◌≡◌, ◌≤◌, ◌-◌}
 use Rattle.lb_steps.specs.Runs.{run}
 use Rattle.lb_isa.specs.Moves.{move}
 use Rattle.lb_isa.specs.Runs.{isa}
-use Rattle.lb_isa.specs.Steps.{run_of}
+use Rattle.lb_isa.specs.InternalSteps.{run_of}
 use Rattle.lb_isa.proofs.runner.run.Given as goal
 
 abbrev pub invariant-loop-runner : goal.invariant-loop-runner

@@ -10,8 +10,8 @@ use Rattle.lb_grammar.specs.declared.transfer.Transfer.TheVariants.{Opening}
 use Rattle.lb_grammar.specs.declared.boot.Booting.{Booting}
 use Rattle.lb_grammar.specs.declared.boot.Booting.TheVariants.{FirstPin, SecondPin, ByteTest, HwCfg, MacData, MacCmd, MacBusy}
 use Rattle.lb_grammar.specs.Grammar.{iof_en, output_en, byte_test, hw_cfg, mac_csr_cmd, mac_csr_data, byte_order, is_ready, read_bytes, write_bytes}
-use Rattle.lb_grammar.specs.Machine.{again, inside}
-use Rattle.lb_grammar.specs.Transferring.{transfer_step}
+use Rattle.lb_grammar.specs.InternalMachine.{again, inside}
+use Rattle.lb_grammar.specs.InternalTransferring.{transfer_step}
 
 -- a store of this value leads there
 abbrev pub stored : ℕ → ℕ → Booting → Event → Progress Booting Ending

@@ -11,8 +11,8 @@ use Rattle.lb_grammar.specs.declared.packet.Header.{Header}
 use Rattle.lb_grammar.specs.declared.round.Rounding.{Rounding}
 use Rattle.lb_grammar.specs.declared.round.Rounding.TheVariants.{Info, Status, Words, Loading, Storing}
 use Rattle.lb_grammar.specs.Grammar.{output_val, rx_data_fifo, rx_status_fifo, rx_fifo_inf, is_word, waiting, length_of, has_error, word_count, with_command, read_bytes}
-use Rattle.lb_grammar.specs.Machine.{inside}
-use Rattle.lb_grammar.specs.Transferring.{transfer_step}
+use Rattle.lb_grammar.specs.InternalMachine.{inside}
+use Rattle.lb_grammar.specs.InternalTransferring.{transfer_step}
 
 -- ---- the words that are looked at
 

@@ -8,8 +8,8 @@ use Rattle.lb_grammar.specs.declared.exchange.Exchange.TheVariants.{Room}
 use Rattle.lb_grammar.specs.declared.transfer.Transfer.{Transfer}
 use Rattle.lb_grammar.specs.declared.transfer.Transfer.TheVariants.{Opening, Sending, Closing}
 use Rattle.lb_grammar.specs.Grammar.{csmode}
-use Rattle.lb_grammar.specs.Machine.{inside}
-use Rattle.lb_grammar.specs.Exchanging.{exchange_step}
+use Rattle.lb_grammar.specs.InternalMachine.{inside}
+use Rattle.lb_grammar.specs.InternalExchanging.{exchange_step}
 
 -- the word of the last four answers, with one answer more
 abbrev pub pushed : ℕ → ℕ → ℕ

@@ -10,9 +10,9 @@ use Rattle.lb_grammar.specs.declared.boot.Booting.TheVariants.{FirstPin}
 use Rattle.lb_grammar.specs.declared.round.Rounding.TheVariants.{Info}
 use Rattle.lb_grammar.specs.declared.judging.Judging.{Judging}
 use Rattle.lb_grammar.specs.declared.judging.Judging.TheVariants.{Boot, Between, Round, Still}
-use Rattle.lb_grammar.specs.Machine.{inside, runs}
-use Rattle.lb_grammar.specs.Booting.{boot_step}
-use Rattle.lb_grammar.specs.Rounding.{round_step}
+use Rattle.lb_grammar.specs.InternalMachine.{inside, runs}
+use Rattle.lb_grammar.specs.InternalBooting.{boot_step}
+use Rattle.lb_grammar.specs.InternalRounding.{round_step}
 
 -- the whole has no end
 pub data NoEnd : Type 0 where

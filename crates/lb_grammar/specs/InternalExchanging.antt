@@ -6,7 +6,7 @@ use Rattle.lb_grammar.specs.declared.progress.Progress.{Progress}
 use Rattle.lb_grammar.specs.declared.progress.Progress.TheVariants.{Within, Done, Off}
 use Rattle.lb_grammar.specs.declared.exchange.Exchange.{Exchange}
 use Rattle.lb_grammar.specs.declared.exchange.Exchange.TheVariants.{Room, Sending, Answer}
-use Rattle.lb_grammar.specs.Machine.{again}
+use Rattle.lb_grammar.specs.InternalMachine.{again}
 use Rattle.lb_grammar.specs.Grammar.{txdata, rxdata, is_ready, is_busy}
 
 -- a load of the register that is waited for
