@@ -14,8 +14,10 @@ use lb_syntax::Layout;
 use lb_trace::Trace;
 use std::alloc::{AllocError, Global};
 
-/// What a program does under a layout that is valid for it, with so much fuel in all and these replies of its devices:
-/// `init` once, then `loop` for ever. Fails only for want of memory.
+/// What a program does under a layout that is valid for it: `init` once, then `loop` for ever. The call of `init`, each
+/// start of `loop`, each call and each turn of a `while` spend one of the fuel, and where none is left the run ends as
+/// `Spent`. A read of a device takes the next reply, and where none is left the run ends as `Starved`. The layout says how
+/// large each function's frame is, and where its blocks stand in it. Fails only for want of memory.
 pub fn interpret(
     alloc: Global,
     program: &Checked,

@@ -11,11 +11,16 @@ use std::thread::Threads;
 /// What the call is handed, and how its source and its sink behave.
 #[derive(Drop)]
 pub struct Call<'a> {
+    /// The words of the command line, the program's name first.
     pub words: &'a [&'a str],
     pub input: &'a [u8],
+    /// The most bytes that one read gives, or one write takes.
     pub piece: usize,
+    /// The numbers of the reads that fail, counted from 0.
     pub read_fails: &'a [u64],
+    /// The most bytes that the sink takes in all.
     pub room: usize,
+    /// The numbers of the writes that fail, counted from 0.
     pub write_fails: &'a [u64],
 }
 
