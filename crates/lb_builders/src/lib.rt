@@ -6,5 +6,5 @@ mod spelled;
 mod term;
 
 pub use command::{add, block, one, read_register, repeats, set, two, when, write_register};
-pub use spelled::{Spelled, name_of, one_name, two_names};
+pub use spelled::{Spelled, one_name, two_names};
 pub use term::{number, operation, two_terms, variable};

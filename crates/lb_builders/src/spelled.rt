@@ -1,8 +1,8 @@
 // Names, of what spells them.
 ghost use Rattle.std.specs.Prelude.{◌≡◌, IfOk, [], ◌∷◌};
-ghost use Rattle.lb_syntax.specs.Names.{Text, IsName};
+ghost use Rattle.lb_syntax.specs.Names.{Text};
 
-use lb_syntax::{Name, NameFault};
+use lb_syntax::Name;
 use sqlite_items::Items;
 use std::alloc::{AllocError, Global};
 
@@ -14,18 +14,6 @@ pub trait Spelled: Copy {
     /// The name. `AllocError` comes where no memory is left.
     fn name(self, alloc: Global) -> Result<Name, AllocError>
         ensures { IfOk result (λ n. n ≡ text self) };
-}
-
-/// The name that the bytes spell. `AllocError` comes where no memory is left.
-pub fn name_of(alloc: Global, bytes: &[u8]) -> Result<Name, AllocError>
-    requires { IsName bytes.now }
-    ensures { IfOk result (λ n. n ≡ bytes.now) }
-{
-    match Name::new(alloc, bytes) {
-        Ok(name) => Ok(name),
-        Err(NameFault::Memory) => Err(AllocError),
-        Err(NameFault::NotAName) => unreachable!(),
-    }
 }
 
 /// A list of one name. `AllocError` comes where no memory is left.

@@ -3,7 +3,7 @@ ghost use Rattle.std.specs.Prelude.{◌≡◌};
 ghost use Rattle.lb_syntax.specs.Names.{IsName};
 ghost use Rattle.lb_bulb.specs.InternalWords.{text_of};
 
-use lb_builders::{Spelled, name_of};
+use lb_builders::Spelled;
 use lb_syntax::Name;
 use std::alloc::{AllocError, Global};
 
@@ -73,6 +73,6 @@ impl Spelled for Word {
     ghost text = { text_of };
 
     fn name(self, alloc: Global) -> Result<Name, AllocError> {
-        name_of(alloc, name_bytes(self))
+        Name::of_spelling(alloc, name_bytes(self))
     }
 }

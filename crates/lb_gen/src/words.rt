@@ -4,7 +4,7 @@ ghost use Rattle.lb_syntax.specs.Names.{IsName};
 ghost use Rattle.lb_gen.specs.Made.{function_name};
 ghost use Rattle.lb_gen.specs.InternalParts.{text_of};
 
-use lb_builders::{Spelled, name_of};
+use lb_builders::Spelled;
 use lb_syntax::Name;
 use std::alloc::{AllocError, Global};
 
@@ -48,7 +48,7 @@ impl Spelled for Word {
     ghost text = { text_of };
 
     fn name(self, alloc: Global) -> Result<Name, AllocError> {
-        name_of(alloc, name_bytes(self))
+        Name::of_spelling(alloc, name_bytes(self))
     }
 }
 
@@ -59,5 +59,5 @@ pub fn function_name(alloc: Global, number: u32) -> Result<Name, AllocError>
     ensures { IfOk result (λ n. n ≡ function_name number) }
 {
     let text = format!(in alloc; "f{number}")?;
-    name_of(alloc, text.as_bytes())
+    Name::of_spelling(alloc, text.as_bytes())
 }

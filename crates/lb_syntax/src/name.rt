@@ -55,6 +55,14 @@ impl Name {
         if !is_name(bytes) {
             return Err(NameFault::NotAName);
         }
+        Ok(Name::of_spelling(alloc, bytes)?)
+    }
+
+    /// The name of bytes that are known to spell one, as those of a token are. `AllocError` comes where no memory is left.
+    pub fn of_spelling(alloc: Global, bytes: &[u8]) -> Result<Name, AllocError>
+        requires { IsName bytes.now }
+        ensures { IfOk result (λ name. name ≡ bytes.now) }
+    {
         let bytes = Vec::from_slice(alloc, bytes)?;
         Ok(Name { bytes })
     }

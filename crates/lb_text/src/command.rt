@@ -8,14 +8,14 @@ ghost use Rattle.lb_text.specs.InternalReading.{Took, begins_plain, begins_comma
 ghost use Rattle.lb_text.specs.InternalFindings.{rest_of_commands, rest_of_if, rest_of_while, rest_of_allocation, BracedAt, BlockFrom, CommandFrom, CommandsFrom, ElseAndCommands, Finds, FindsClosing, FindsCommand, FindsUpTo, FindsCommandUpTo, Refuses};
 
 use crate::call::Callee;
-use crate::names::{checked, name};
+use crate::names::name;
 use crate::parse_error::ParseError;
 use crate::simple::{call_of, named, store, unset};
 use crate::term::term;
 use crate::token::{expect_token, number, sign};
 use lb_scan::Token;
 use lb_spelling::Symbol;
-use lb_syntax::{Block, Cmd};
+use lb_syntax::{Block, Cmd, Name};
 use sqlite_items::Items;
 use std::alloc::Global;
 
@@ -122,7 +122,7 @@ fn plain_command<'a>(
         Token::Store(width) => store(alloc, depth, width, bytes),
         Token::StackAlloc => allocation(alloc, depth, bytes),
         Token::While => repetition(alloc, depth, bytes),
-        Token::Name(spelling) => named(alloc, depth, checked(alloc, spelling)?, bytes),
+        Token::Name(spelling) => named(alloc, depth, Name::of_spelling(alloc, spelling)?, bytes),
         Token::Device(action) => call_of(
             alloc,
             depth,

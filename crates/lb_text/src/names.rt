@@ -1,6 +1,5 @@
 // Names and lists of names.
 ghost use Rattle.std.specs.Prelude.{◌≡◌, ◌≤◌, ◌∷◌, [], true, IfOk};
-ghost use Rattle.lb_syntax.specs.Names.{IsName};
 ghost use Rattle.lb_syntax.specs.Brackets.{most_brackets};
 ghost use Rattle.lb_spelling.specs.declared.symbol.Symbol.TheVariants as symbols;
 ghost use Rattle.lb_spelling.specs.Grammar.{NameAt};
@@ -11,21 +10,9 @@ use crate::parse_error::ParseError;
 use crate::token::expect_token;
 use lb_scan::Token;
 use lb_spelling::Symbol;
-use lb_syntax::{Name, NameFault};
+use lb_syntax::Name;
 use sqlite_items::Items;
 use std::alloc::{AllocError, Global};
-
-/// The name that these bytes, which spell one, are.
-pub fn checked(alloc: Global, bytes: &[u8]) -> Result<Name, AllocError>
-    requires { IsName bytes.now }
-    ensures { IfOk result (λ name. name ≡ bytes.now) }
-{
-    match Name::new(alloc, bytes) {
-        Ok(name) => Ok(name),
-        Err(NameFault::Memory) => Err(AllocError),
-        Err(NameFault::NotAName) => unreachable!(),
-    }
-}
 
 /// The name at the front, and what follows it.
 pub fn name(alloc: Global, depth: u32, bytes: &[u8]) -> Result<(Name, &[u8]), ParseError>
@@ -37,7 +24,7 @@ pub fn name(alloc: Global, depth: u32, bytes: &[u8]) -> Result<(Name, &[u8]), Pa
     let Token::Name(spelling) = token else {
         unreachable!()
     };
-    Ok((checked(alloc, spelling)?, rest))
+    Ok((Name::of_spelling(alloc, spelling)?, rest))
 }
 
 /// A list of one name.
@@ -59,7 +46,7 @@ pub fn params(alloc: Global, depth: u32, bytes: &[u8]) -> Result<(Items<Name>, &
     match token {
         Token::CloseParen => Ok((Items::new(alloc), rest)),
         Token::Name(spelling) => {
-            let names = one(alloc, checked(alloc, spelling)?)?;
+            let names = one(alloc, Name::of_spelling(alloc, spelling)?)?;
             more_names(alloc, Symbol::MoreNames, depth, names, rest)
         }
         _ => unreachable!(),

@@ -9,7 +9,7 @@ ghost use Rattle.lb_text.specs.InternalReading.{Took};
 ghost use Rattle.lb_text.specs.InternalFindings.{rest_of_unset, rest_of_store, rest_of_named, rest_of_targets, rest_of_source, rest_of_value, CalleeAt, CommandFrom, CallOfTargets, CallFrom, AssignmentTo, AssignmentOf, Finds, FindsLeaving, FindsAssignment, Refuses, RefusesFrom};
 
 use crate::call::{Callee, call};
-use crate::names::{checked, more_names, name, one};
+use crate::names::{more_names, name, one};
 use crate::parse_error::ParseError;
 use crate::term::{term, term_from};
 use crate::token::{expect_token, sign};
@@ -126,7 +126,7 @@ fn callee(alloc: Global, depth: u32, bytes: &[u8]) -> Result<(Callee, &[u8]), Pa
 {
     let (token, rest) = expect_token(Symbol::Callee, depth, bytes)?;
     match token {
-        Token::Name(spelling) => Ok((Callee::Function(checked(alloc, spelling)?), rest)),
+        Token::Name(spelling) => Ok((Callee::Function(Name::of_spelling(alloc, spelling)?), rest)),
         Token::Device(action) => Ok((Callee::Device(action), rest)),
         _ => unreachable!(),
     }
@@ -152,7 +152,13 @@ fn assignment(
             Callee::Device(action),
             rest,
         ),
-        Token::Name(spelling) => from_name(alloc, depth, target, checked(alloc, spelling)?, rest),
+        Token::Name(spelling) => from_name(
+            alloc,
+            depth,
+            target,
+            Name::of_spelling(alloc, spelling)?,
+            rest,
+        ),
         _ => from_term(alloc, depth, target, token, rest),
     }
 }

@@ -7,12 +7,11 @@ ghost use Rattle.lb_scan.specs.Tokens.{token_of};
 ghost use Rattle.lb_text.specs.InternalReading.{Took};
 ghost use Rattle.lb_text.specs.InternalFindings.{rest_of_expr, rest_of_load, rest_of_operation, SignAt, ExprAt, ExprFrom, Finds, FindsClosing, FindsFrom, Refuses, RefusesFrom};
 
-use crate::names::checked;
 use crate::parse_error::ParseError;
 use crate::token::{expect_token, sign};
 use lb_scan::Token;
 use lb_spelling::Symbol;
-use lb_syntax::{Expr, Op, Width};
+use lb_syntax::{Expr, Name, Op, Width};
 use sqlite_items::Boxed;
 use std::alloc::Global;
 
@@ -42,7 +41,7 @@ pub fn term_from<'a>(
 {
     match token {
         Token::Number(value) => Ok((Expr::Literal(value), bytes)),
-        Token::Name(spelling) => Ok((Expr::Var(checked(alloc, spelling)?), bytes)),
+        Token::Name(spelling) => Ok((Expr::Var(Name::of_spelling(alloc, spelling)?), bytes)),
         Token::Load(width) => load(alloc, depth, width, bytes),
         Token::OpenParen => operation(alloc, depth + 1, bytes),
         _ => unreachable!(),

@@ -63,5 +63,5 @@ otherwise-returns-in_err-next-clause-fault t c =
 pub otherwise-returns-clause-found : goal.otherwise-returns-clause-found
 otherwise-returns-clause-found t c = else_read _ c.requires (rw c.in-Else.is at c.in_ok-token.ensures.found) c.in_ok-no.ensures.found c.in_ok-next.ensures.found
 
-pub plain_command-checked-requires : goal.plain_command-checked-requires
-plain_command-checked-requires t c = let p = rw c.in-Name.is at c.requires.took in named_is_name _ _ _ p.takes.stands
+pub plain_command-of_spelling-requires : goal.plain_command-of_spelling-requires
+plain_command-of_spelling-requires t c = let p = rw c.in-Name.is at c.requires.took in named_is_name _ _ _ p.takes.stands
