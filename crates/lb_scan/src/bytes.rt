@@ -1,8 +1,7 @@
 // Tests on bytes.
 ghost use Rattle.std.specs.Prelude.{◌≡◌};
 ghost use Rattle.std.specs.Char.{is_digit};
-ghost use Rattle.lb_syntax.specs.Names.{is_name_start};
-ghost use Rattle.lb_spelling.specs.Tokens.{is_blank, is_word_byte, begins_with, same};
+ghost use Rattle.lb_spelling.specs.Tokens.{is_blank, begins_with, same};
 ghost use Rattle.lb_spelling.specs.InternalMachine.{unexpected};
 
 use lb_spelling::TextKind;
@@ -20,21 +19,6 @@ pub fn is_digit(b: u8) -> bool
     ensures { result ≡ is_digit b 10 }
 {
     (b as char).is_digit(10)
-}
-
-/// Whether it is a letter, a digit or an underscore.
-#[tactic(auto, unfolding(lb_spelling::specs::Tokens::is_word_byte))]
-pub fn is_word_byte(b: u8) -> bool
-    ensures { result ≡ is_word_byte b }
-{
-    b.is_ascii_alphanumeric() || b == b'_'
-}
-
-/// Whether it is a letter or an underscore.
-pub fn is_name_start(b: u8) -> bool
-    ensures { result ≡ is_name_start b }
-{
-    b.is_ascii_alphabetic() || b == b'_'
 }
 
 /// The kind of the fault at a byte that begins nothing.

@@ -2,10 +2,11 @@
 ghost use Rattle.std.specs.Prelude.{◌≡◌, ◌≤◌, ◌+◌, ◌*◌, true, IfOk, IfErr};
 ghost use Rattle.lb_scan.specs.InternalScanning.{begins_with_digit, ReadsDigits, DigitsFault, HexadecimalFault, IsBehindMark, IsWordOrNone, ReadsNumber, ReadsNoNumber, NumberFault};
 
-use crate::bytes::{is_word_byte, unexpected};
+use crate::bytes::unexpected;
 use crate::gap::first;
 use crate::syntax_error::SyntaxError;
 use lb_spelling::TextKind;
+use lb_syntax::is_name_byte;
 
 /// The number at the front, which begins with a digit, and the bytes behind it.
 pub fn number(bytes: &[u8]) -> Result<(u32, &[u8]), SyntaxError>
@@ -58,7 +59,7 @@ fn digits(radix: u32, bytes: &[u8]) -> Result<(u32, &[u8]), SyntaxError>
     let mut value: u32 = 0;
     let mut rest = bytes;
     while let Some((b, after)) = first(rest) {
-        if !is_word_byte(b) {
+        if !is_name_byte(b) {
             return Ok((value, rest));
         }
         let Some(digit) = (b as char).to_digit(radix) else {

@@ -1,17 +1,16 @@
 // Words and signs, and what their beginnings may become.
 ghost use Rattle.std.specs.Prelude.{◌≡◌, ◌<◌, ◌&&◌, ◌∷◌, [], true, false, None, length, take, slice_index};
-ghost use Rattle.std.specs.List.{list_all};
-ghost use Rattle.lb_syntax.specs.Names.{starts_name};
 ghost use Rattle.lb_spelling.specs.Tokens as tokens;
 ghost use Rattle.lb_spelling.specs.InternalMachine as machine;
 ghost use Rattle.lb_scan.specs.Tokens.{token_of_option};
 ghost use Rattle.lb_scan.specs.InternalScanning.{IsSpelled, begins_with_digit, begins_name, BeginsToken, IsStuckIn};
 
-use crate::bytes::{begins_with, is_name_start, is_word_byte, unexpected};
+use crate::bytes::{begins_with, unexpected};
 use crate::gap::first;
 use crate::syntax_error::SyntaxError;
 use crate::token::{Token, begins_fixed, begins_taken, fixed, takes};
 use lb_spelling::{Symbol, TextKind};
+use lb_syntax::{are_name_bytes, is_name_byte, starts_name};
 
 /// The length of the spelling at the front; 33 for one that is too long for a name.
 pub fn spelling_len(bytes: &[u8]) -> usize
@@ -45,10 +44,11 @@ fn joins(bytes: &[u8], len: usize) -> bool
     begins_with(longer, b"//")
 }
 
+#[tactic(auto, unfolding(lb_spelling::specs::Tokens::is_word_byte))]
 fn are_in_run(first: u8, b: u8) -> bool
     ensures { result ≡ (tokens.is_word_byte first && tokens.is_word_byte b) }
 {
-    is_word_byte(first) && is_word_byte(b)
+    is_name_byte(first) && is_name_byte(b)
 }
 
 /// The word or sign of this spelling.
@@ -67,29 +67,14 @@ pub fn lexeme(spelling: &[u8]) -> Option<Token>
 }
 
 // Whether it has the form of a name or a reserved word.
-#[tactic(auto, unfolding(lb_spelling::specs::Tokens::is_word))]
+#[tactic(auto, unfolding(lb_spelling::specs::Tokens::is_word, lb_spelling::specs::Tokens::is_word_byte))]
 fn is_word(bytes: &[u8]) -> bool
     ensures { result ≡ tokens.is_word bytes.now }
 {
     if bytes.len() > 32 {
         return false;
     }
-    starts_name(bytes) && are_word_bytes(bytes)
-}
-
-fn starts_name(bytes: &[u8]) -> bool
-    ensures { result ≡ starts_name bytes.now }
-{
-    match bytes {
-        [] => false,
-        [first, ..] => is_name_start(*first),
-    }
-}
-
-fn are_word_bytes(bytes: &[u8]) -> bool
-    ensures { result ≡ list_all tokens.is_word_byte bytes.now }
-{
-    bytes.iter().all(|b| is_word_byte(*b))
+    starts_name(bytes) && are_name_bytes(bytes)
 }
 
 /// Whether a word or sign that `expected` takes begins so, or a comment does.
@@ -153,7 +138,7 @@ fn kind_in(spelling: &[u8], b: u8) -> TextKind
     if !is_word(spelling) {
         return unexpected(b);
     }
-    if is_word_byte(b) {
+    if is_name_byte(b) {
         TextKind::NameTooLong
     } else {
         unexpected(b)

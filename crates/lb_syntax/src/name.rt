@@ -116,13 +116,15 @@ fn is_name(bytes: &[u8]) -> bool
     starts_name(bytes) && are_name_bytes(bytes)
 }
 
-fn are_name_bytes(bytes: &[u8]) -> bool
+/// Whether they are letters, digits and underscores.
+pub fn are_name_bytes(bytes: &[u8]) -> bool
     ensures { result ≡ list_all is_name_byte bytes.now }
 {
     bytes.iter().all(|b| is_name_byte(*b))
 }
 
-fn starts_name(bytes: &[u8]) -> bool
+/// Whether the first of them is a letter or an underscore.
+pub fn starts_name(bytes: &[u8]) -> bool
     ensures { result ≡ starts_name bytes.now }
 {
     match bytes {
@@ -137,7 +139,8 @@ fn is_name_start(b: u8) -> bool
     b.is_ascii_alphabetic() || b == b'_'
 }
 
-fn is_name_byte(b: u8) -> bool
+/// Whether it is a letter, a digit or an underscore.
+pub fn is_name_byte(b: u8) -> bool
     ensures { result ≡ is_name_byte b }
 {
     b.is_ascii_alphanumeric() || b == b'_'
