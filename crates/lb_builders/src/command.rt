@@ -50,7 +50,7 @@ pub fn repeats(condition: Expr, body: Block) -> Cmd
     Cmd::While { condition, body }
 }
 
-/// A block that runs where the condition isn't 0.
+/// A command that runs a block where the condition isn't 0, and nothing else.
 pub fn when(alloc: Global, condition: Expr, yes: Block) -> Cmd
     ensures { command_of result ≡ Chooses (term_of condition) (block_of yes) Ends }
 {
