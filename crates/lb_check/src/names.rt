@@ -8,84 +8,7 @@ ghost use Rattle.lb_check.specs.InternalWalks.{procedures_of, Appends};
 
 use lb_syntax::{Block, Cmd, Expr, Function, Name};
 use std::alloc::{AllocError, Global};
-use std::cmp::Ordering;
 use std::collections::BTreeSet;
-use std::marker::Model;
-
-// A name in a set of names, in the order of its bytes.
-#[derive(Drop)]
-struct Key {
-    bytes: Vec<u8>,
-}
-
-impl Model for Key {
-    ghost use Rattle.std.specs.Prelude.{List, ℕ};
-
-    ghost Value = { List ℕ };
-
-    ghost view = { λ key. key.bytes.items };
-}
-
-impl Key {
-    // The key of a name.
-    fn of(alloc: Global, name: &Name) -> Result<Key, AllocError>
-        ensures { IfOk result (λ key. key ≡ name.now) }
-    {
-        let bytes = Vec::from_slice(alloc, name.as_bytes())?;
-        Ok(Key { bytes })
-    }
-}
-
-impl PartialEq for Key {
-    ghost use Rattle.std.specs.Str.{bytes_eq};
-    ghost use Rattle.std.proofs.Common.{rules};
-
-    ghost eq = { bytes_eq };
-
-    fn eq(&self, other: &Key) -> bool {
-        self.bytes.as_slice() == other.bytes.as_slice()
-    }
-
-    ghost laws = { Prim.search rules };
-}
-
-impl Eq for Key {
-    ghost use Rattle.std.proofs.Common.{rules};
-
-    ghost laws = { Prim.search rules };
-}
-
-impl PartialOrd for Key {
-    ghost use Rattle.std.specs.Prelude.{Some};
-    ghost use Rattle.std.specs.Ordering.{nat_cmp};
-    ghost use Rattle.std.specs.Cmp.Lexicographic.{slice_cmp, texts_po};
-
-    ghost partial_cmp = { λ a b. Some (slice_cmp nat_cmp a b) };
-
-    ghost laws = { texts_po };
-
-    fn partial_cmp(&self, other: &Key) -> Option<Ordering> {
-        Some(self.cmp(other))
-    }
-}
-
-impl Ord for Key {
-    ghost use Rattle.std.specs.Prelude.{refl};
-    ghost use Rattle.std.specs.Ordering.{nat_cmp};
-    ghost use Rattle.std.specs.Cmp.Lexicographic.{slice_cmp, nat_list_cmp_total, texts_ties};
-
-    ghost cmp = { slice_cmp nat_cmp };
-
-    ghost total = { nat_list_cmp_total };
-
-    ghost matches_partial_cmp = { λ a b. refl };
-
-    ghost matches_eq = { texts_ties };
-
-    fn cmp(&self, other: &Key) -> Ordering {
-        self.bytes.as_slice().cmp(other.bytes.as_slice())
-    }
-}
 
 /// The first name that comes earlier in the list too.
 pub fn first_repeated(alloc: Global, names: &[Name]) -> Result<Option<Name>, AllocError>
@@ -93,7 +16,7 @@ pub fn first_repeated(alloc: Global, names: &[Name]) -> Result<Option<Name>, All
 {
     let mut seen = BTreeSet::new(alloc);
     for name in names {
-        if !seen.insert(Key::of(alloc, name)?)? {
+        if !seen.insert(name.as_bytes())? {
             return Ok(Some(name.copy(alloc)?));
         }
     }
@@ -119,7 +42,7 @@ fn count_distinct(alloc: Global, names: &[Name]) -> Result<u64, AllocError>
     let mut seen = BTreeSet::new(alloc);
     let mut count = 0;
     for name in names {
-        if seen.insert(Key::of(alloc, name)?)? {
+        if seen.insert(name.as_bytes())? {
             count += 1;
         }
     }
