@@ -1,7 +1,7 @@
 // The rules in their order.
 ghost use Rattle.std.specs.Prelude.{◌<◌, ◌^◌, map};
 ghost use Rattle.lb_check.specs.Parts.{parts};
-ghost use Rattle.lb_check.specs.Faults.{where_true, faults};
+ghost use Rattle.lb_check.specs.Faults.{faults};
 ghost use Rattle.lb_check.specs.Verdict.{Keeps};
 ghost use Rattle.lb_check.specs.InternalVerdict.{Tells, Settles};
 ghost use Rattle.lb_check.specs.InternalWalks.{procedures_of};
@@ -54,35 +54,29 @@ fn check_rule(alloc: Global, rule: Rule, functions: &[Function]) -> Result<(), C
     match rule {
         Rule::FunctionCount => {
             let count = functions.len() as u64;
-            refuse_if(
-                count > MOST_FUNCTIONS,
-                CheckFault::TooManyFunctions { count },
-            )
+            if count > MOST_FUNCTIONS {
+                return Err(CheckError::Fault(CheckFault::TooManyFunctions { count }));
+            }
         }
-        Rule::FunctionNames => check_function_names(alloc, functions),
-        Rule::Init => refuse_if(
-            !has_function(functions, b"init".as_slice()),
-            CheckFault::NoInit,
-        ),
-        Rule::Again => refuse_if(
-            !has_function(functions, b"loop".as_slice()),
-            CheckFault::NoLoop,
-        ),
+        Rule::FunctionNames => check_function_names(alloc, functions)?,
+        Rule::Init => {
+            if !has_function(functions, b"init".as_slice()) {
+                return Err(CheckError::Fault(CheckFault::NoInit));
+            }
+        }
+        Rule::Again => {
+            if !has_function(functions, b"loop".as_slice()) {
+                return Err(CheckError::Fault(CheckFault::NoLoop));
+            }
+        }
         Rule::CodeNeed => {
             let words = code_need(alloc, functions)?;
-            refuse_if(words > MOST_WORDS, CheckFault::CodeNeed { words })
+            if words > MOST_WORDS {
+                return Err(CheckError::Fault(CheckFault::CodeNeed { words }));
+            }
         }
-        Rule::OfFunction(rule) => check_functions(alloc, rule, functions),
-        Rule::OfCommand(rule) => check_commands(alloc, rule, functions),
-    }
-}
-
-// The fault, where there is one.
-fn refuse_if(broken: bool, fault: CheckFault) -> Result<(), CheckError>
-    ensures { Tells (where_true broken fault) result }
-{
-    if broken {
-        return Err(CheckError::Fault(fault));
+        Rule::OfFunction(rule) => check_functions(alloc, rule, functions)?,
+        Rule::OfCommand(rule) => check_commands(alloc, rule, functions)?,
     }
     Ok(())
 }
