@@ -1,6 +1,7 @@
 // One worker alone.
-ghost use Rattle.std.specs.Prelude.{◌≡◌, ◌↔◌, IsFalse, IsTrue};
+ghost use Rattle.std.specs.Prelude.{◌≡◌, ◌≤◌, ◌↔◌, ℕ, IsFalse, IsTrue};
 ghost use Rattle.lb_machine.specs.Machines.{IsReplay};
+ghost use Rattle.lb_crew.specs.Crews.{Finishes};
 ghost use Rattle.lb_crew.specs.Drawn.{HasEnded, IsDrawn, IsDrawnUntil};
 ghost use Rattle.lb_crew.specs.InternalDraws.{FiresFirst, HasEnough, IsDrawnWithin};
 
@@ -15,6 +16,7 @@ use lb_trace::Kind;
 pub fn serial(machine: Machine, seed: u32) -> Machine
     ensures fixed { result.fixed ≡ machine.fixed }
     ensures drawn { IsDrawn seed machine result }
+    ensures finishes { (workers : ℕ) → 1 ≤ workers → Finishes seed workers machine result }
 {
     finish_alone(machine, seed, &OpenGate)
 }

@@ -2,10 +2,8 @@
 #![tactic(auto)]
 
 mod alone;
-mod crew;
 mod draws;
 mod racing;
 
 pub use alone::{serial, serial_until};
-pub use crew::{Crew, Serial};
 pub use racing::race;

@@ -20,7 +20,7 @@ use crate::line::{fixed_line, told_line};
 use crate::request::{has_input, request_of};
 use crate::shown::Shown;
 use lb_correctness::{lamp_keeps, machines_keep};
-use lb_crew::{Crew as _, Serial, race};
+use lb_crew::{race, serial};
 use lb_image::Image;
 use lb_machine::Machine;
 use lb_ports::{Gate, ReadAllFault, Sink, Source, read_all, write_all};
@@ -72,10 +72,10 @@ pub fn plain<I: Source, O: Sink>(
         → RunsTheLamp true job (port I.left I.faults input.old input.new)
         (port O.held O.faults output.old output.new) result }
 {
-    let finish = |alloc: Global, machine: Machine, workers: u8, seed: u32|
+    let finish = |_: Global, machine: Machine, workers: u8, seed: u32|
         requires { (1 ≤ workers) × (workers ≤ 8) }
         ensures { IfOk result (Finishes seed workers machine) }
-    { Serial.finish(alloc, machine, workers, seed) };
+    { Ok(serial(machine, seed)) };
     let crew = Crew {
         finish,
         alone: true,
