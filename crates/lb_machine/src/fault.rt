@@ -1,6 +1,6 @@
 // Why a machine doesn't fire, and why a log isn't replayed.
 ghost use Rattle.std.specs.Prelude.{◌≡◌};
-ghost use Rattle.lb_machine.specs.declared.fault.ReplayFault.TheVariants.{Memory};
+ghost use Rattle.lb_machine.specs.declared.fault.ReplayFault.TheVariants.{BadEvent, Memory};
 
 use lb_rv::Cause;
 use std::alloc::AllocError;
@@ -27,6 +27,21 @@ pub enum ReplayFault {
     /// No memory is left.
     #[error("no memory is left")]
     Memory,
+}
+
+/// The entry of a log that is the first that can't be fired.
+#[derive(Clone, Copy)]
+pub(crate) struct BadEntry {
+    /// Its place, from 0.
+    pub(crate) at: u32,
+}
+
+impl From<BadEntry> for ReplayFault {
+    ghost from_gives = { λ bad e. e ≡ BadEvent bad.at };
+
+    fn from(bad: BadEntry) -> Self {
+        ReplayFault::BadEvent { at: bad.at }
+    }
 }
 
 impl From<AllocError> for ReplayFault {

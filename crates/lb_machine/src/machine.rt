@@ -1,5 +1,5 @@
 // The machine.
-ghost use Rattle.std.specs.Prelude.{◌≡◌, ◌≤◌, ◌↔◌, ◌*◌, ◌∷◌, ◌++◌, IfErr, IfNone, IfOk, IfSome, IsTrue, [], length, true};
+ghost use Rattle.std.specs.Prelude.{◌≡◌, ◌≤◌, ◌↔◌, ◌*◌, ◌∷◌, ◌++◌, IfErr, IfNone, IfOk, IfSome, IsTrue, OnOk, [], length, true};
 ghost use Rattle.lb_isa.specs.Runs.{IsBootable};
 ghost use Rattle.lb_core.specs.Stands.{Stands};
 ghost use Rattle.lb_core.specs.State.{state_of};
@@ -12,7 +12,7 @@ ghost use Rattle.lb_machine.specs.Refusals.{Fires, Refuses};
 ghost use Rattle.lb_machine.specs.Rows.{is_enabled};
 ghost use Rattle.lb_machine.specs.State.{job_of};
 
-use crate::fault::NotFired;
+use crate::fault::{BadEntry, NotFired};
 use crate::frames::{copied, same_frames};
 use crate::job::FixedJob;
 use crate::system::System;
@@ -185,8 +185,8 @@ impl Machine {
         let entries = self.log();
         let mut machine = self.booted_anew(alloc)?;
         match machine.fire_all(entries) {
-            None => Ok(machine),
-            Some(_) => unreachable!(),
+            Ok(()) => Ok(machine),
+            Err(_) => unreachable!(),
         }
     }
 
@@ -218,24 +218,26 @@ impl Machine {
         Machine::boot(alloc, code, self.entry, frames, self.max_events)
     }
 
-    // Fires the entries in order, up to the first that can't be fired, whose place it gives.
-    pub(crate) fn fire_all(&mut self, entries: &[Entry]) -> Option<u32>
+    // Fires the entries in order, up to the first that can't be fired.
+    pub(crate) fn fire_all(&mut self, entries: &[Entry]) -> Result<(), BadEntry>
         requires workers { HaveWorkers entries.now }
         requires empty { self.old.log ≡ [] }
         requires room { length entries.now ≤ self.old.fixed.max_events }
         ensures same { self.new.fixed ≡ self.old.fixed }
-        ensures all { IfNone result (self.new.log ≡ entries.now) }
-        ensures refused { IfSome result (IsFirstRefused self.old.fixed.job entries.now) }
+        ensures all { OnOk result (self.new.log ≡ entries.now) }
+        ensures refused { IfErr result
+            (λ bad. IsFirstRefused self.old.fixed.job entries.now bad.at) }
         ensures replay { IsReplay self.new }
     {
         for entry in entries {
             if let Err(_) = self.fire(entry.worker, entry.kind) {
-                return Some(self.log().len() as u32);
+                let at = self.log().len() as u32;
+                return Err(BadEntry { at });
             }
         }
         // Names the machine as it is, so that what its type keeps is known of it.
         let _ = &self.system;
-        None
+        Ok(())
     }
 
     // Why this kind can't be fired, if it can't.

@@ -32,8 +32,6 @@ pub fn replay(
     ensures bad { IfErr result (IsRightFault (job_of code.now entry frames.items) log.now) }
 {
     let mut machine = Machine::boot(alloc, code, entry, frames, log.len() as u32)?;
-    match machine.fire_all(log) {
-        None => Ok(machine),
-        Some(at) => Err(ReplayFault::BadEvent { at }),
-    }
+    machine.fire_all(log)?;
+    Ok(machine)
 }
