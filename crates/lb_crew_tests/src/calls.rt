@@ -4,7 +4,7 @@ ghost use Rattle.lb_crew.specs.Crews.{CallsFinish, Finishes, MayCall};
 
 use crate::stop::Stop;
 use lb_crew::{race, serial, serial_until};
-use lb_machine::{Machine, replay};
+use lb_machine::{MOST_ENTRIES, Machine, replay};
 use lb_ports::Gate;
 use lb_trace::Entry;
 use std::alloc::{AllocError, Global};
@@ -16,7 +16,7 @@ const CODE: [u32; 4] = [0x1001_20B7, 0x0011_0113, 0x0020_A623, 0xFF9F_F06F];
 
 /// A machine of the program before its first step.
 pub fn boot(alloc: Global, max_events: u32) -> Result<Machine, Stop> {
-    if max_events > 4_000_000 {
+    if max_events > MOST_ENTRIES {
         return Err(Stop::Range);
     }
     Ok(Machine::boot(alloc, &CODE, 0, Vec::new(alloc), max_events)?)

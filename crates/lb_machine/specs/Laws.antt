@@ -6,8 +6,9 @@ use Rattle.lb_core.specs.Potential.{Fits}
 use Rattle.lb_core.specs.Rows.{done_of}
 use Rattle.lb_core.specs.Rows.{is_enabled as is_enabled_in_core}
 use Rattle.lb_core.specs.Stands.{Stands}
+use Rattle.lb_machine.specs.declared.machine.TheConstants.{MOST_ENTRIES}
 use Rattle.lb_machine.specs.State.{Job}
-use Rattle.lb_machine.specs.Logs.{IsLegal, may_fire, replay}
+use Rattle.lb_machine.specs.Logs.{IsLegal, may_fire, most_entries, replay}
 use Rattle.lb_machine.specs.Refusals.{halted_after}
 
 -- the core stands for the trace
@@ -41,3 +42,7 @@ abbrev pub EntriesAreBounded : Type 0
 EntriesAreBounded =
     (job : Job) (log : List Entry) → IsLegal job log
     → length log ≤ 20 * done_of (replay job log).core + 60 + length job.frames
+
+-- the constant is the number of the definitions
+abbrev pub MostEntries : Type 0
+MostEntries = MOST_ENTRIES ≡ most_entries

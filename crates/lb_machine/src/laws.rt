@@ -1,5 +1,5 @@
 // The laws of all legal logs: no function here computes anything.
-ghost use Rattle.lb_machine.specs.Laws.{EntriesAreBounded, EventsAreFew, LogsFit, LogsGoOn, LogsStand};
+ghost use Rattle.lb_machine.specs.Laws.{EntriesAreBounded, EventsAreFew, LogsFit, LogsGoOn, LogsStand, MostEntries};
 
 /// After a legal log the core stands for the trace.
 pub fn logs_stand()
@@ -25,4 +25,9 @@ pub fn events_are_few()
 /// frame of the job.
 pub fn entries_are_bounded()
     ensures { EntriesAreBounded }
+{}
+
+/// The most entries of a log are `MOST_ENTRIES`.
+pub fn most_entries_are()
+    ensures { MostEntries }
 {}

@@ -12,6 +12,8 @@ mod system;
 
 pub use fault::{NotFired, ReplayFault};
 pub use job::FixedJob;
-pub use laws::{entries_are_bounded, events_are_few, logs_fit, logs_go_on, logs_stand};
-pub use machine::{Machine, Parts};
+pub use laws::{
+    entries_are_bounded, events_are_few, logs_fit, logs_go_on, logs_stand, most_entries_are,
+};
+pub use machine::{MOST_ENTRIES, Machine, Parts};
 pub use replaying::replay;

@@ -23,6 +23,9 @@ use lb_turn::Acts;
 use std::alloc::{AllocError, Global};
 use std::marker::Model;
 
+/// The most entries of a log.
+pub const MOST_ENTRIES: u32 = 4_000_000;
+
 /// A core with its board, and the log of all steps since boot. Contracts see what never changes,
 /// the log, and the state: core, board and the accesses of devices so far. It is always the replay
 /// of the log.
@@ -62,8 +65,8 @@ impl Machine {
     /// A machine before its first step, with the code's words in RAM from address 0 on, entered at
     /// `entry`, a byte address; with the frames that are to arrive; and with room for a log of
     /// `max_events` entries. The code has 1 to 32,768 words, the entry is a multiple of 4 below its
-    /// end, there are at most 64 frames of 1 to 2,000 bytes, and `max_events` is at most 4,000,000.
-    /// Fails only for want of memory; of the other calls `copy` alone takes memory.
+    /// end, there are at most 64 frames of 1 to 2,000 bytes, and `max_events` is at most
+    /// `MOST_ENTRIES`. Fails only for want of memory; of the other calls `copy` alone takes memory.
     pub fn boot(
         alloc: Global,
         code: &[u32],

@@ -5,7 +5,7 @@ ghost use Rattle.lb_machine.specs.Logs.{HaveWorkers, most_entries};
 
 use crate::stop::Stop;
 use lb_board_testkit::script;
-use lb_machine::{Machine, replay};
+use lb_machine::{MOST_ENTRIES, Machine, replay};
 use lb_trace::Entry;
 use std::alloc::Global;
 
@@ -18,7 +18,7 @@ pub struct Job {
 
 /// A machine of the job before its first step.
 pub fn boot(alloc: Global, job: Job, max_events: u32) -> Result<Machine, Stop> {
-    if max_events > 4_000_000 {
+    if max_events > MOST_ENTRIES {
         return Err(Stop::Text);
     }
     let code = code(alloc, job.words)?;

@@ -15,7 +15,7 @@ use lb_crew::serial_until;
 use lb_gen::checked_program;
 use lb_image::Image;
 use lb_isa::{Isa, Stepped};
-use lb_machine::{Machine, Parts};
+use lb_machine::{MOST_ENTRIES, Machine, Parts};
 use lb_source::interpret;
 use lb_trace::Event;
 use lb_words::Job;
@@ -26,9 +26,6 @@ const FUEL: u64 = 4_000;
 
 /// The most instructions of the run of the code.
 const MOST_INSTRUCTIONS: u32 = 1_000_000;
-
-/// The most entries of the machine's log.
-const MOST_ENTRIES: u32 = 4_000_000;
 
 /// The events at which the runs of the code are stopped.
 const MOST_COUNTED: u32 = 64;
