@@ -36,57 +36,57 @@ pub fn race<R: Threads + Wait + Sync, G: Gate + Sync>(
         return Ok(finish_alone(machine, seed, gate));
     }
     let (turn, seats) = Turn::open(alloc, machine, workers)?;
-    let jobs = make_jobs(alloc, &turn, seats, seed)?;
-    let seats = work_all(rt, gate, jobs)?;
+    let crew = make_crew(alloc, &turn, seats, seed)?;
+    let seats = work_all(rt, gate, crew)?;
     Ok(close(turn, seats))
 }
 
-// What a worker is given: its seat, the turn that the seat is of, and the seed of its draws.
+// A worker's seat, the turn that the seat is of, and the seed of its draws.
 #[derive(Drop)]
-struct Job<'a> {
+struct Worker<'a> {
     turn: &'a Turn<Machine>,
     seat: Seat<Machine>,
     seed: u32,
     ghost of: { IsOf turn.now seat },
 }
 
-// A job for each seat. Fails only for want of memory.
-fn make_jobs<'a>(
+// A worker for each seat. Fails only for want of memory.
+fn make_crew<'a>(
     alloc: Global,
     turn: &'a Turn<Machine>,
     seats: Vec<Seat<Machine>>,
     seed: u32,
-) -> Result<Vec<Job<'a>>, AllocError>
+) -> Result<Vec<Worker<'a>>, AllocError>
     requires { All (IsOf turn.now) seats.items }
-    ensures { IfOk result (λ jobs. map (λ j. j.seat) jobs.items ≡ seats.items) }
+    ensures { IfOk result (λ crew. map (λ w. w.seat) crew.items ≡ seats.items) }
 {
-    let mut jobs = Vec::with_capacity(alloc, seats.len())?;
+    let mut crew = Vec::with_capacity(alloc, seats.len())?;
     for seat in seats {
-        jobs.push_reserved(Job { turn, seat, seed });
+        crew.push_reserved(Worker { turn, seat, seed });
     }
-    Ok(jobs)
+    Ok(crew)
 }
 
 // All workers work, each in a thread of its own. Fails only for want of memory.
 fn work_all<R: Threads + Wait + Sync, G: Gate + Sync>(
     rt: &R,
     gate: &G,
-    jobs: Vec<Job<'_>>,
+    crew: Vec<Worker<'_>>,
 ) -> Result<Vec<Seat<Machine>>, AllocError>
-    ensures { IfOk result (λ seats. AllHaveWorked (map (λ j. j.seat) jobs.entry.items) seats.items) }
+    ensures { IfOk result (λ seats. AllHaveWorked (map (λ w. w.seat) crew.entry.items) seats.items) }
 {
-    thread::map_vec(rt, jobs, &|job| work(rt, gate, job))
+    thread::map_vec(rt, crew, &|worker| work(rt, gate, worker))
 }
 
 // A worker tries until it is told that the machine has ended.
-fn work<R: Wait, G: Gate>(rt: &R, gate: &G, job: Job<'_>) -> Seat<Machine>
-    ensures { HasWorked job.entry.seat result }
+fn work<R: Wait, G: Gate>(rt: &R, gate: &G, worker: Worker<'_>) -> Seat<Machine>
+    ensures { HasWorked worker.entry.seat result }
 {
-    let Job {
+    let Worker {
         turn,
         mut seat,
         seed,
-    } = job;
+    } = worker;
     let mut passes = Passes::new(gate, seat.number());
     let mut draws = Draws::new(seed, seat.number());
     let mut kind = draw_kind(&mut draws);

@@ -2,7 +2,7 @@ use Rattle.std.proofs.Common.{◌∙◌, arith, length, subst, sym}
 use Rattle.std.proofs.lemmas.Iterator.Adapters.{YieldsList-from_vec}
 use Rattle.std.proofs.lemmas.Iterator.Consumers.{YieldsList-turn}
 use Rattle.lb_turn.specs.Seats.{IsOf}
-use Rattle.lb_crew.proofs.racing.make_jobs.Goals as goal
+use Rattle.lb_crew.proofs.racing.make_crew.Goals as goal
 
 pub invariant_of-push_reserved : goal.invariant_of-push_reserved
 invariant_of-push_reserved c =
