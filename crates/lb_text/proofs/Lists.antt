@@ -11,8 +11,8 @@ use Rattle.lb_spelling.specs.Grammar.{Standing, ◌then◌, MoreAt, NameAt, Name
 use Rattle.lb_spelling.specs.InternalMachine.{Stack, next, next_more_names, next_more_targets, next_arguments, next_more_arguments, opened}
 use Rattle.lb_spelling.specs.InternalParsing.{Takes}
 use Rattle.lb_text.specs.declared.parse_error.ParseError.{ParseError}
-use Rattle.lb_text.specs.InternalReading.{coming, Goes, Reads, ReadsFrom, ReadsMore, Fails, FailsFrom, After, ends_names, last_of}
-use Rattle.lb_text.proofs.Steps.{start, and_token, and_part, and_parts, fails_at, fails_among, fails_all, token_reads}
+use Rattle.lb_text.specs.InternalReading.{coming, Goes, Reads, ReadsMore, Fails, After, ends_names, last_of}
+use Rattle.lb_text.proofs.Steps.{ReadsFrom, FailsFrom, start, and_token, and_part, and_parts, fails_at, fails_among, fails_all, token_reads}
 use Rattle.lb_text.proofs.Signs.{takes_this}
 
 -- these items were read: what completes them by Q from rest on completes the whole by P

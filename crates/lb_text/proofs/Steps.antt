@@ -10,9 +10,16 @@ use Rattle.lb_spelling.specs.InternalMachine.{Stack, next, opened}
 use Rattle.lb_spelling.specs.InternalParsing.{outcome, Takes}
 use Rattle.lb_text.specs.declared.parse_error.ParseError.{ParseError}
 use Rattle.lb_text.specs.declared.parse_error.ParseError.TheVariants.{Memory, Syntax}
-use Rattle.lb_text.specs.InternalReading.{or_empty, coming, Goes, Reads, Fails, After, ReadsFrom, FailsFrom}
+use Rattle.lb_text.specs.InternalReading.{or_empty, coming, Goes, Reads, Fails, After}
 use Rattle.lb_spelling.proofs.Running.{token_runs}
 use Rattle.lb_spelling.proofs.TextRuns.{token_less}
+
+-- P, whose first token t was read before s where x is expected
+abbrev pub ReadsFrom : ℕ → Symbol → Token → Standing → ℕ → Stack → Text → Text → Type 0
+ReadsFrom n x t P m ys s rest = Reads (opened t n) (coming x t) (After (Stands t) P) m ys s rest
+
+abbrev pub FailsFrom : ℕ → Symbol → Token → Text → ParseError → Type 0
+FailsFrom n x t s e = Fails (opened t n) (coming x t) s e
 
 pub is_coming : (y : Symbol) (t : Token) → is_some (next y t) ≡ true → next y t ≡ Some (coming y t)
 is_coming y t e = some (next y t) e where

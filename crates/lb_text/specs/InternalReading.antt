@@ -51,13 +51,6 @@ pub record Took (n : ℕ) (x : Symbol) (t : Token) (s : Text) : Type 0 where
   pub all : Text
   pub takes : Takes n x t all s
 
--- P, whose first token t was read before s where x is expected
-abbrev pub ReadsFrom : ℕ → Symbol → Token → Standing → ℕ → Stack → Text → Text → Type 0
-ReadsFrom n x t P m ys s rest = Reads (opened t n) (coming x t) (After (Stands t) P) m ys s rest
-
-abbrev pub FailsFrom : ℕ → Symbol → Token → Text → ParseError → Type 0
-FailsFrom n x t s e = Fails (opened t n) (coming x t) s e
-
 -- P up to the commands of which t is the first token, which was read too
 pub record ReadsUpTo (n : ℕ) (xs : Stack) (P : List Command → Standing) (t : Token) (s rest : Text) : Type 0 where
   pub stands : (more : List Command) (r : Text) → After (Stands t) (CommandsAt (chain more)) rest r → P more s r

@@ -15,7 +15,7 @@ use crate::term::{term, term_from};
 use crate::token::{expect_token, sign};
 use lb_scan::Token;
 use lb_spelling::Symbol;
-use lb_syntax::{Action, Cmd, Expr, Name, Width};
+use lb_syntax::{Cmd, Expr, Name, Width};
 use sqlite_items::Items;
 use std::alloc::Global;
 
