@@ -1,5 +1,5 @@
 -- The functions of a program that keeps the rules can be counted.
-use Rattle.std.proofs.Common.{ℕ, ◌*◌, ◌<◌, ◌≤◌, ◌^◌, Bool, true, false, List, [], ◌∷◌, length, map, nat_le, arith, if◌then◌else◌}
+use Rattle.std.proofs.Common.{◌≡◌, ℕ, ◌*◌, ◌≤◌, Bool, true, false, List, [], ◌∷◌, length, map, nat_le, ap, ◌∙◌, arith, if◌then◌else◌}
 use Rattle.std.specs.Prelude.{sum}
 use Rattle.std.specs.List.{AllByRecursion}
 use Rattle.std.proofs.lemmas.List.Sums.{sum_by-cons}
@@ -7,12 +7,11 @@ use Rattle.lb_syntax.specs.declared.limits.TheConstants.{MOST_FRAME, MOST_WORDS,
 use Rattle.lb_syntax.specs.Tree.{Term, Procedure}
 use Rattle.lb_syntax.specs.Tree.{Command, Skips, Sets, Unsets, Stores, Allocates, Chooses, Repeats, Calls, Interacts, Ends, Then}
 use Rattle.lb_syntax.specs.Needs.{nodes, term_words, terms_words, words, procedure_words, far_factor, frame_need, procedure_names}
-use Rattle.lb_syntax.specs.Names.{Text}
+use Rattle.lb_syntax.specs.Names.{Text, is_among, AreDistinct}
 use Rattle.lb_syntax.specs.Rules.{KeepsRules}
 use Rattle.lb_syntax.proofs.SetLemmas.{distinct-size}
 use Rattle.lb_check.specs.Parts.{body_parts}
 use Rattle.lb_flat.specs.SourceCounts.{greatest_arguments}
-use Rattle.lb_flat.specs.InternalFlatForms.{AreNamesOf}
 use Rattle.lb_flat.specs.InternalFlatten.{HasRoom, IsCountable}
 use Rattle.lb_flat.proofs.FlatForms.{by_elements}
 
@@ -69,9 +68,7 @@ each_countable (f ∷ fs) few frames =
 pub countable : (p : List Procedure) → KeepsRules p → AllByRecursion IsCountable p
 countable p keeps = each_countable p (omega (arith, keeps.limits.code)) (by_elements (λ f. frame_need f ≤ MOST_FRAME) p keeps.limits.frames)
 
--- the names of a function's variables leave room for its temporaries
-pub names_room : (f : Procedure) (names : List Text) → IsCountable f → AreNamesOf f names → HasRoom (length names) f.body
-names_room f names few are = omega (arith, few.room, distinct-size (procedure_names f) names are.distinct are.same)
-
-pub names_few : (f : Procedure) (names : List Text) → IsCountable f → AreNamesOf f names → length names < 2 ^ 32
-names_few f names few are = omega (arith, names_room f names few are)
+-- the names that a function names, each once, leave room for its temporaries
+pub names_room : (f : Procedure) (named names : List Text) → IsCountable f → named ≡ procedure_names f → AreDistinct names → ((x : Text) → is_among names x ≡ is_among named x)
+    → HasRoom (length names) f.body
+names_room f named names few is distinct same = omega (arith, few.room, distinct-size (procedure_names f) names distinct (λ x. same x ∙ ap (λ (l : List Text). is_among l x) is))

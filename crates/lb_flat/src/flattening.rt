@@ -1,10 +1,8 @@
 // From the source to flat code.
-ghost use Rattle.std.specs.Prelude.{◌≡◌, ◌<◌, ◌≤◌, ◌^◌, map, length, All, IfOk, OnOk};
+ghost use Rattle.std.specs.Prelude.{◌≤◌, map, length, All, IfOk, OnOk};
 ghost use Rattle.std.specs.List.{AllByRecursion};
 ghost use Rattle.lb_syntax.specs.declared.limits.TheConstants.{MOST_FUNCTIONS};
-ghost use Rattle.lb_syntax.specs.Names.{IsName};
-ghost use Rattle.lb_syntax.specs.Needs.{procedure_names};
-ghost use Rattle.lb_syntax.specs.Tree.{block_of, procedure_of, program_of};
+ghost use Rattle.lb_syntax.specs.Tree.{procedure_of, program_of};
 ghost use Rattle.lb_syntax.specs.WellFormed.{IsProcedure};
 ghost use Rattle.lb_syntax.specs.Rules.{function_names, KeepsRules};
 ghost use Rattle.lb_flat.specs.Flat.{flat_routine, flat_executable};
@@ -12,17 +10,17 @@ ghost use Rattle.lb_syntax.specs.Needs as source;
 ghost use Rattle.lb_flat.specs.Needs.{code_need, flat_routine_words, flat_accesses_need};
 ghost use Rattle.lb_flat.specs.SourceCounts.{source_accesses_need, IsSmall};
 ghost use Rattle.lb_flat.specs.Order.{IsFlatInOrder};
-ghost use Rattle.lb_flat.specs.InternalFlatForms.{AreNamesOf, IsFlatForm, AreFlatForms, IsFlattened};
+ghost use Rattle.lb_flat.specs.InternalFlatForms.{IsFlatForm, AreFlatForms, IsFlattened};
 ghost use Rattle.lb_flat.specs.Flattened.{HasSameRuns, HasFewVariables, NamesByPlace};
 ghost use Rattle.lb_flat.specs.Laws.{AllAskNoMore};
-ghost use Rattle.lb_flat.specs.InternalFlatten.{HasRoom, IsCountable};
+ghost use Rattle.lb_flat.specs.InternalFlatten.{IsCountable};
 
 use crate::arguments::arguments_of_block;
 use crate::flat::{FlatFunction, FlatProgram};
 use crate::numbers::VariableNumbers;
 use crate::scope::{Scope, place_of_function};
 use lb_check::{Checked, depth_of_block, variable_names};
-use lb_syntax::{Function, Name, Program};
+use lb_syntax::{Function, Program};
 use sqlite_items::Items;
 use std::alloc::{AllocError, Global};
 
@@ -102,9 +100,10 @@ fn flatten_function(
         (procedure_of f.now) (flat_routine made)) }
     ensures well_formed { OnOk result (IsProcedure (procedure_of f.now)) }
 {
-    is_name(&f.name);
+    // That the function's name is well formed is known by its type.
+    f.name.as_bytes();
     let names = variable_names(alloc, f)?;
-    let numbers = few_numbers_of(alloc, f, names.as_slice())?;
+    let numbers = VariableNumbers::new(alloc, names.as_slice())?;
     let scope = Scope::new(alloc, functions, numbers);
     let depth = depth_of_block(&f.body) as u32;
     Ok(FlatFunction {
@@ -113,39 +112,4 @@ fn flatten_function(
         results: scope.numbers(f.results.as_slice())?,
         body: scope.block(&f.body)?,
     })
-}
-
-// The numbers of a function's variables, which are few.
-fn few_numbers_of<'a>(
-    alloc: Global,
-    f: &Function,
-    names: &'a [Name],
-) -> Result<VariableNumbers<'a>, AllocError>
-    requires countable { IsCountable (procedure_of f.now) }
-    requires names { names.now ≡ procedure_names (procedure_of f.now) }
-    ensures names { IfOk result (λ numbers. AreNamesOf (procedure_of f.entry.now) numbers) }
-    ensures few { IfOk result (λ numbers. length numbers < 2 ^ 32) }
-    ensures room { IfOk result (λ numbers. HasRoom (length numbers) (block_of f.entry.now.body)) }
-{
-    let numbers = numbers_of(alloc, f, names)?;
-    Ok(numbers)
-}
-
-// The numbers of a function's variables.
-fn numbers_of<'a>(
-    alloc: Global,
-    f: &Function,
-    names: &'a [Name],
-) -> Result<VariableNumbers<'a>, AllocError>
-    requires { names.now ≡ procedure_names (procedure_of f.now) }
-    ensures { IfOk result (λ numbers. AreNamesOf (procedure_of f.entry.now) numbers) }
-{
-    VariableNumbers::new(alloc, names)
-}
-
-// A name is one, by its type.
-fn is_name(name: &Name)
-    ensures { IsName name.now }
-{
-    name.as_bytes();
 }
