@@ -3,9 +3,8 @@ ghost use Rattle.std.specs.Prelude.{◌<◌, ◌^◌};
 
 use crate::answer::{MOST_BYTES, NoAnswer, answer};
 use lb_handmade::has_few_parts;
-use lb_printing::print_program;
 use lb_syntax::{Block, Cmd, Expr, Function, Name, NameFault, Program, brackets};
-use lb_text::{ReadError, read_program};
+use lb_text::{ReadError, print_program, read_program};
 use sqlite_items::Items;
 use std::alloc::{AllocError, Global};
 
