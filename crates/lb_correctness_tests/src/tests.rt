@@ -11,6 +11,11 @@ fn the_lamp_is_switched_on_once(rt: HostRuntime) -> Result<(), Stop> {
     assert_eq!(rt; served.arrived, 3);
     assert_eq!(rt; served.switches, 1);
     assert!(rt; matches!(served.verdict, Verdict::Prefix { rounds: 4.. }));
-    assert_eq!(rt; served.of_other, Verdict::Leaves { at: served.place as u64 });
+    assert_eq!(rt;
+        served.of_other,
+        Verdict::Leaves {
+            at: served.place as u64
+        }
+    );
     Ok(())
 }

@@ -150,7 +150,13 @@ fn prints_and_compares_traces(rt: HostRuntime) -> Result<(), Fail> {
     assert!(rt; more.as_slice() == b"trace\nld 10024048 000000ab\n".as_slice());
     let values = replies(rt.alloc(), &events)?;
     assert!(rt; values.as_slice() == [0xAB, 0xAB].as_slice());
-    let first = replies(rt.alloc(), &[Event::Ld { addr: 0x1002_4048, value: 0 }])?;
+    let first = replies(
+        rt.alloc(),
+        &[Event::Ld {
+            addr: 0x1002_4048,
+            value: 0,
+        }],
+    )?;
     assert!(rt; first.as_slice() == [0].as_slice());
     assert!(rt; is_prefix(&events[..2], &events));
     assert!(rt; is_prefix(&[], &events));

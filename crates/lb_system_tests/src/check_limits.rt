@@ -154,7 +154,13 @@ fn takes_64_open_brackets(rt: HostRuntime) -> Result<(), Fail> {
 
 #[test]
 fn takes_names_of_32_bytes(rt: HostRuntime) -> Result<(), Fail> {
-    let most = repeated(rt.alloc(), "fn init() { } fn loop() { } fn ", "a", 32, "() { }")?;
+    let most = repeated(
+        rt.alloc(),
+        "fn init() { } fn loop() { } fn ",
+        "a",
+        32,
+        "() { }",
+    )?;
     assert!(rt; answers(rt.alloc(), &most, 0, "ok functions 3 words 256 stack 136\n")?);
     let past = repeated(rt.alloc(), "fn ", "a", 33, "")?;
     assert!(rt; answers(rt.alloc(), &past, 2, "text at 35 name-too-long\n")?);
