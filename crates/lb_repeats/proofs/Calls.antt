@@ -17,6 +17,7 @@ use Rattle.lb_system.proofs.TopLemmas.{one_request}
 use Rattle.lb_repeats.specs.Repeats.{AnswerEqually, Call, CallsRepeat, IsPlain, IsUndisturbed}
 use Rattle.lb_repeats.proofs.Shown.{one_shown}
 use Rattle.lb_repeats.proofs.Told.{Laws, one_told}
+use Rattle.lb_system.specs.declared.crew.Workers.TheVariants as workers
 
 -- ---- one case
 
@@ -125,11 +126,11 @@ module _ (laws : Laws) (words : List Text) (bytes : Text) (a b : Call) (p : IsPl
       both_refused f none e (tells.1 ∙ ap (λ (x : Fault). Some x) (sym (one_told laws c question f g cause.2.2 tells.2)))
 
   -- both reported
-  both_reported : a.ended.fault ≡ None → b.ended.fault ≡ None → (x y : Text) → IsReport true words a.source (shown_by a.ended x)
-      → IsReport true words b.source (shown_by b.ended y) → WritesReport a.sink None x → WritesReport b.sink None y → AnswerEqually a b
+  both_reported : a.ended.fault ≡ None → b.ended.fault ≡ None → (x y : Text) → IsReport workers.Alone words a.source (shown_by a.ended x)
+      → IsReport workers.Alone words b.source (shown_by b.ended y) → WritesReport a.sink None x → WritesReport b.sink None y → AnswerEqually a b
   both_reported d e x y r s wx wy =
       let same : r.it ≡ s.it = one_case words bytes a.source b.source a.ended.image b.ended.image r.it s.it image u.told v.told r.case s.case in
-      let shows = subst (λ (c : Case). Shows true c.job c.input (shown_by a.ended x)) same r.shows in
+      let shows = subst (λ (c : Case). Shows workers.Alone c.job c.input (shown_by a.ended x)) same r.shows in
       let view : shown_by a.ended x ≡ shown_by b.ended y =
       one_shown laws s.it.job s.it.input (shown_by a.ended x) (shown_by b.ended y) image shows s.shows in
       record {
@@ -142,12 +143,12 @@ module _ (laws : Laws) (words : List Text) (bytes : Text) (a b : Call) (p : IsPl
 
   reported : a.ended.fault ≡ None → AnswerEqually a b
   reported d =
-      let told : IsReported true words a.source a.sink a.ended = p.report (subst HasReport (sym d) tt) in
+      let told : IsReported workers.Alone words a.source a.sink a.ended = p.report (subst HasReport (sym d) tt) in
       let x : Text = told.0 in
-      let r : IsReport true words a.source (shown_by a.ended x) = told.1 in
+      let r : IsReport workers.Alone words a.source (shown_by a.ended x) = told.1 in
       let there = known words bytes a.source b.source a.ended.image b.ended.image r.it image u.told v.told v.reads r.case in
       let e : b.ended.fault ≡ None = answer (b.ended.fault ≡ None) (q.complete r.it there r.all v.writes) in
-      let told' : IsReported true words b.source b.sink b.ended = q.report (subst HasReport (sym e) tt) in
+      let told' : IsReported workers.Alone words b.source b.sink b.ended = q.report (subst HasReport (sym e) tt) in
       let y : Text = told'.0 in
       both_reported d e x y r told'.1 (subst (λ (o : Option Fault). WritesReport a.sink o x) d told.2)
       (subst (λ (o : Option Fault). WritesReport b.sink o y) e told'.2)
@@ -207,7 +208,7 @@ module _ (laws : Laws) (words : List Text) (bytes : Text) (a b : Call) (p : IsPl
 
   not_written : a.ended.fault ≡ Some fault.Write → AnswerEqually a b
   not_written d =
-      let told : IsReported true words a.source a.sink a.ended = p.report (subst HasReport (sym d) tt) in
+      let told : IsReported workers.Alone words a.source a.sink a.ended = p.report (subst HasReport (sym d) tt) in
       let x : Text = told.0 in
       let cut : WritesReport a.sink (Some fault.Write) x = subst (λ (o : Option Fault). WritesReport a.sink o x) d told.2 in
       absurd (u.writes cut.1)

@@ -26,13 +26,14 @@ use Rattle.lb_system.specs.Report.{check_report, list_report}
 use Rattle.lb_system.specs.RunReport.{interp_report, isa_report}
 use Rattle.lb_system.specs.MachineReport.{IsLampReport, IsVerdict, IsLogPart, IsMachineReport, IsReportOf, counts_text, ending_lines, rounds_text, verdict_text}
 use Rattle.lb_system.specs.LargeReport.{AreCounts, IsCoreCount, ShowsLarge, large_report, most_counted, seed_program, source_run, bare_job}
-use Rattle.lb_system.specs.Views.{View, alone, with_image}
+use Rattle.lb_system.specs.Views.{View, of_report, with_image}
 use Rattle.lb_system.specs.Questions.{OfProgram, is_image}
 use Rattle.lb_system.specs.Answers.{CrewShows, IsCheckReport, IsCrewsLog, IsReadLog, Shows, ShowsImage, ShowsLamp, ShowsListing, ShowsMachine, ShowsNeeds, ShowsReplied, ShowsRun, ShowsText, ShowsVerdict}
 use Rattle.lb_repeats.proofs.Drawn.{one_crew_log, one_trace_until}
 use Rattle.lb_repeats.proofs.LogText.{one_log_text}
 use Rattle.lb_repeats.proofs.Places.{one_verdict}
 use Rattle.lb_repeats.proofs.Told.{Laws, of_one}
+use Rattle.lb_system.specs.declared.crew.Workers.TheVariants as workers
 
 same_view : (s t : View) → s.report ≡ t.report → s.log ≡ t.log → s.image ≡ t.image → s ≡ t
 same_view s t r l i =
@@ -58,14 +59,14 @@ module _ (laws : Laws) where
       let c : IsCheckReport p s.report = a.0 in
       let d : IsCheckReport p t.report = b.0 in
       let report = c.told ∙ ap (check_report p) (laws.need p c.stack d.stack c.need d.need) ∙ sym d.told in
-      a.1 ∙ ap alone report ∙ sym b.1
+      a.1 ∙ ap of_report report ∙ sym b.1
 
   one_listing : (image : Bool) (input : Text) (s t : View) → s.image ≡ t.image → ShowsListing image input s → ShowsListing image input t → s ≡ t
   one_listing true input s t e a b =
       let i : Image = a.0 in
       let j : Image = b.0 in
       let same = laws.spelling i j a.1 b.1 (sym a.2 ∙ b.2) in
-      a.3 ∙ ap (λ x. alone (list_report x)) same ∙ sym b.3
+      a.3 ∙ ap (λ x. of_report (list_report x)) same ∙ sym b.3
   one_listing false input s t e a b =
       let both = of_one laws input (ShowsImage list_report s) (ShowsImage list_report t) a b in
       let p : List Procedure = both.0 in
@@ -92,7 +93,7 @@ module _ (laws : Laws) where
       let w : Verdict = b.1 in
       let same : es ≡ fs = laws.trace.one_list (lines_of part.line part.text) es fs a.2 b.2 in
       let verdict = one_verdict laws.prefix laws.rounds fs v w (subst (λ (l : List Event). IsVerdict l v) same a.3) b.3 in
-      a.4 ∙ ap (λ x. alone (verdict_text x)) verdict ∙ sym b.4
+      a.4 ∙ ap (λ x. of_report (verdict_text x)) verdict ∙ sym b.4
 
 -- ---- a machine's report
 
@@ -121,7 +122,7 @@ one_lamp_report laws job on log x y a b =
 
 -- ---- a machine's log
 
-one_made_log : (job : Job) (on : MachineJob) (x y : List Entry) → IsCrewsLog true job on x → IsCrewsLog true job on y → x ≡ y
+one_made_log : (job : Job) (on : MachineJob) (x y : List Entry) → IsCrewsLog workers.Alone job on x → IsCrewsLog workers.Alone job on y → x ≡ y
 one_made_log job on x y a b =
     a.made ∙ one_crew_log job.seed job.events on a.booted a.ended b.booted b.ended a.boots b.boots a.finishes b.finishes ∙ sym b.made
 
@@ -193,14 +194,14 @@ module _ (laws : Laws) (job : Job) (input : Text) (s t : View) (e : s.image ≡ 
       let p : List Procedure = both.0 in
       one_machine IsLog (IsMachineReport job) one (one_machine_report job) gs p s t e both.1 both.2
 
-  one_lamp : ShowsLamp true job input s → ShowsLamp true job input t → s ≡ t
+  one_lamp : ShowsLamp workers.Alone job input s → ShowsLamp workers.Alone job input t → s ≡ t
   one_lamp a b =
       let part : Part = section 0 input in
       let fs : List FrameContent = a.0 in
       let gs : List FrameContent = b.0 in
       let same : fs ≡ gs = laws.frames.one_list (lines_of part.line part.text) fs gs a.1 b.1 in
-      let first = subst (λ (l : List FrameContent). ShowsMachine (IsCrewsLog true job) (IsLampReport job) l s supplied) same a.2 in
-      one_machine (IsCrewsLog true job) (IsLampReport job) (one_made_log job) (one_lamp_report laws job) gs supplied s t e first b.2
+      let first = subst (λ (l : List FrameContent). ShowsMachine (IsCrewsLog workers.Alone job) (IsLampReport job) l s supplied) same a.2 in
+      one_machine (IsCrewsLog workers.Alone job) (IsLampReport job) (one_made_log job) (one_lamp_report laws job) gs supplied s t e first b.2
 
   one_check : OfProgram input (ShowsNeeds s) → OfProgram input (ShowsNeeds t) → s ≡ t
   one_check a b =
@@ -217,18 +218,18 @@ module _ (laws : Laws) (job : Job) (input : Text) (s t : View) (e : s.image ≡ 
       let p : List Procedure = both.0 in
       one_image_report image_bytes p s t e both.1 both.2
 
-  one_of_mode : (m : Mode) → CrewShows true m job input s → CrewShows true m job input t → s ≡ t
+  one_of_mode : (m : Mode) → CrewShows workers.Alone m job input s → CrewShows workers.Alone m job input t → s ≡ t
   one_of_mode mode.Check a b = one_check a b
   one_of_mode mode.Print a b = one_print a b
   one_of_mode mode.Compile a b = one_compile a b
   one_of_mode mode.List a b = one_listing laws (is_image input) input s t e a b
   one_of_mode mode.Interp a b = one_replied laws (interp_report job) input s t e a b
   one_of_mode mode.Isa a b = one_replied laws (λ p. isa_report job) input s t e a b
-  one_of_mode mode.Run a b = one_run (IsCrewsLog true job) (one_made_log job) a b
+  one_of_mode mode.Run a b = one_run (IsCrewsLog workers.Alone job) (one_made_log job) a b
   one_of_mode mode.Lamp a b = one_lamp a b
   one_of_mode mode.Replay a b = one_run (IsReadLog input) (one_read_log laws input) a b
   one_of_mode mode.Judge a b = one_judged laws input s t a b
   one_of_mode mode.Gen a b = one_large laws job s t e a b
 
-  pub one_shown : Shows true job input s → Shows true job input t → s ≡ t
+  pub one_shown : Shows workers.Alone job input s → Shows workers.Alone job input t → s ≡ t
   one_shown a b = one_of_mode job.mode a b

@@ -1,10 +1,11 @@
 -- What two equal calls of `plain` owe to each other.
-use Rattle.std.specs.Prelude.{◌≡◌, ◌≢◌, true, List, Some}
+use Rattle.std.specs.Prelude.{◌≡◌, ◌≢◌, List, Some}
 use Rattle.std.specs.Io.KnownBytes.{Appends}
 use Rattle.lb_syntax.specs.Names.{Text}
 use Rattle.lb_system.specs.declared.top.Ended.{Ended}
 use Rattle.lb_system.specs.Answers.{Port, Failed}
 use Rattle.lb_system.specs.Calls.{EndsRightly}
+use Rattle.lb_system.specs.declared.crew.Workers.TheVariants as workers
 
 -- a call: its source and its sink, and how it ended
 pub record Call : Type 0 where
@@ -14,7 +15,7 @@ pub record Call : Type 0 where
 
 -- what `plain` ensures of it for these words
 abbrev pub IsPlain : List Text → Call → Type 0
-IsPlain words c = EndsRightly true words c.source c.sink c.ended
+IsPlain words c = EndsRightly workers.Alone words c.source c.sink c.ended
 
 -- its source told these bytes, no count of faults rose, and there was memory
 pub record IsUndisturbed (bytes : Text) (c : Call) : Type 0 where

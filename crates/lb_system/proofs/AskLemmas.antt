@@ -32,7 +32,7 @@ use Rattle.lb_system.specs.declared.fault.Fault.TheVariants as fault
 use Rattle.lb_system.specs.declared.fault.FormFault.TheVariants as form
 use Rattle.lb_system.specs.Report.{list_report}
 use Rattle.lb_system.specs.RunReport.{interp_report, isa_report}
-use Rattle.lb_system.specs.Views.{View, alone, with_image}
+use Rattle.lb_system.specs.Views.{View, of_report, with_image}
 use Rattle.lb_system.specs.Questions.{Case, Question, Lines, Sections, ImageFormat, Grammar, Rules, InForm, Replies, Events, Frames, Entries, SaysReplies, SaysEvents, checked, listed, replied, source, AllHold}
 use Rattle.lb_grammar.specs.declared.Verdict.{Verdict}
 use Rattle.lb_system.specs.MachineReport.{IsVerdict, verdict_text}
@@ -128,22 +128,22 @@ opened_holds c p o = (o.few, ((p, o.text.accepted), tt))
 pub checked_holds : (c : Case) (most : ℕ) (p : List Procedure) → IsOpened most c.input p → KeepsRules p → AllHold c (Sections most ∷ checked)
 checked_holds c most p o rules = (o.few, ((p, o.text.accepted), (of_all KeepsRules o.text rules, tt)))
 
-pub check_made : (job : Job) (input : Text) (p : List Procedure) (report : Text) (s : View) → IsOpened 1 input p → IsCheckReport p report → s ≡ alone report
+pub check_made : (job : Job) (input : Text) (p : List Procedure) (report : Text) (s : View) → IsOpened 1 input p → IsCheckReport p report → s ≡ of_report report
     → IsModeAnswer mode.Check job input s
 check_made job input p report s o h e =
-    let it : IsModeAnswer mode.Check job input (alone report) = (checked_holds (case_of job input None) 1 p o h.rules, (p, o.text.accepted, (h, refl))) in
+    let it : IsModeAnswer mode.Check job input (of_report report) = (checked_holds (case_of job input None) 1 p o h.rules, (p, o.text.accepted, (h, refl))) in
     subst (IsModeAnswer mode.Check job input) (sym e) it
 
-pub print_made : (job : Job) (input : Text) (p : List Procedure) (report : Text) (s : View) → IsOpened 1 input p → report ≡ program_text p → s ≡ alone report
+pub print_made : (job : Job) (input : Text) (p : List Procedure) (report : Text) (s : View) → IsOpened 1 input p → report ≡ program_text p → s ≡ of_report report
     → IsModeAnswer mode.Print job input s
 print_made job input p report s o h e =
-    let it : IsModeAnswer mode.Print job input (alone report) = (opened_holds (case_of job input None) p o, (p, o.text.accepted, ap alone h)) in
+    let it : IsModeAnswer mode.Print job input (of_report report) = (opened_holds (case_of job input None) p o, (p, o.text.accepted, ap of_report h)) in
     subst (IsModeAnswer mode.Print job input) (sym e) it
 
-pub image_made : (job : Job) (input : Text) (i : Image) (report : Text) (s : View) → IsImage i → input ≡ image_bytes i → report ≡ list_report i → s ≡ alone report
+pub image_made : (job : Job) (input : Text) (i : Image) (report : Text) (s : View) → IsImage i → input ≡ image_bytes i → report ≡ list_report i → s ≡ of_report report
     → AllHold (case_of job input s.image) (listed true) × ShowsListing true input s
 image_made job input i report s range bytes h e =
-    (((i, range, bytes), tt), (i, range, bytes, e ∙ ap alone h))
+    (((i, range, bytes), tt), (i, range, bytes, e ∙ ap of_report h))
 
 -- ---- what is shown of a source's image
 
@@ -180,6 +180,6 @@ isa_made job input p replies i text s o said compiled h e = (
 -- ---- a verdict
 
 pub judge_made : (job : Job) (input : Text) (events : List Event) (verdict : Verdict) (text : Text) (s : View) → length (sections input) ≤ 1
-    → SaysEvents (section 0 input) events → IsVerdict events verdict → text ≡ verdict_text verdict → s ≡ alone text → IsModeAnswer mode.Judge job input s
+    → SaysEvents (section 0 input) events → IsVerdict events verdict → text ≡ verdict_text verdict → s ≡ of_report text → IsModeAnswer mode.Judge job input s
 judge_made job input events verdict text s few said is h e =
-    ((few, ((events, said), tt)), (events, verdict, said, is, e ∙ ap alone h))
+    ((few, ((events, said), tt)), (events, verdict, said, is, e ∙ ap of_report h))

@@ -1,5 +1,5 @@
 -- What the top call owes, from what was found.
-use Rattle.std.proofs.Common.{◌≡◌, ◌≢◌, inl, inr, ◌≤◌, Bool, List, [], Some, sym, subst}
+use Rattle.std.proofs.Common.{◌≡◌, ◌≢◌, inl, inr, ◌≤◌, List, [], Some, sym, subst}
 use Rattle.std.specs.Prelude.{IfSome}
 use Rattle.lb_ports.specs.Bytes.{ReadsUpTo, ReadsMoreThan}
 use Rattle.lb_syntax.specs.Names.{Text}
@@ -14,22 +14,23 @@ use Rattle.lb_system.specs.Calls.{EndsRightly}
 use Rattle.lb_system.specs.InternalAnswers.{IsReason, IsTold}
 use Rattle.lb_system.proofs.UnaskedLemmas.{told_unasked}
 use Rattle.lb_system.proofs.TopLemmas.{report_first, report_form, report_much, told_cause, told_complete, told_first, told_fits, told_form, told_long, told_memory, told_much, told_read, told_reason, told_replayed, told_steady, told_unreported, told_usage, written_cases, written_whole}
+use Rattle.lb_system.specs.declared.crew.Workers.{Workers}
 
 -- there is a report
-pub report_rightly : (alone : Bool) (words : List Text) (source sink : Port) (e : Ended) (text : Text) → e.status ≡ status_of e.fault → IsReport alone words source (shown_by e text)
-    → WritesReport sink e.fault text → source.after ≡ source.before → source.before ≤ source.after → sink.before ≤ sink.after → EndsRightly alone words source sink e
-report_rightly alone words source sink e text status r written steady later sunk =
+pub report_rightly : (crew : Workers) (words : List Text) (source sink : Port) (e : Ended) (text : Text) → e.status ≡ status_of e.fault → IsReport crew words source (shown_by e text)
+    → WritesReport sink e.fault text → source.after ≡ source.before → source.before ≤ source.after → sink.before ≤ sink.after → EndsRightly crew words source sink e
+report_rightly crew words source sink e text status r written steady later sunk =
     record {
       status = status;
       usage = written_cases sink text (λ o. o ≡ Some fault.Usage → ¬ (AreInForm words)) (λ x. absurd cc) (λ x. absurd cc) e.fault written;
-      in_form = λ shows. report_form alone words source (shown_by e text) r;
+      in_form = λ shows. report_form crew words source (shown_by e text) r;
       read = written_cases sink text (λ o. o ≡ Some fault.Read → ReadFails source) (λ x. absurd cc) (λ x. absurd cc) e.fault written;
       steady = λ other. steady;
       too_long = written_cases sink text (λ o. o ≡ Some fault.TooLong → ReadsMoreThan source.old source.new most_input) (λ x. absurd cc) (λ x. absurd cc) e.fault written;
-      long = λ bytes much. absurd (report_much alone words source (shown_by e text) bytes r much);
+      long = λ bytes much. absurd (report_much crew words source (shown_by e text) bytes r much);
       memory = written_cases sink text (λ o. o ≡ Some fault.Memory → ReadsUpTo source.old source.new most_input) (λ x. absurd cc) (λ x. absurd cc) e.fault written;
       cause = written_cases sink text (λ o. IfSome o (λ f. IsOfInput f → HasCause words source e.image f)) tt (λ o. absurd o) e.fault written;
-      told = λ c q known first. absurd (report_first alone words source (shown_by e text) c q r known first);
+      told = λ c q known first. absurd (report_first crew words source (shown_by e text) c q r known first);
       report = λ h. (text, r, written);
       complete = λ c known all calm. inr (written_whole sink e.fault text written calm);
       replayed = λ c known all calm. inr (inl (written_whole sink e.fault text written calm));
@@ -41,10 +42,10 @@ report_rightly alone words source sink e text status r written steady later sunk
     }
 
 -- there is none
-pub refusal_rightly : (alone : Bool) (words : List Text) (source sink : Port) (r : Refused) (e : Ended) → e.status ≡ status_of e.fault → IsReason words source r.fault r.image
+pub refusal_rightly : (crew : Workers) (words : List Text) (source sink : Port) (r : Refused) (e : Ended) → e.status ≡ status_of e.fault → IsReason words source r.fault r.image
     → IsTold r e.fault e.image → WritesLine sink e.fault → e.log.items ≡ [] → (r.fault ≢ fault.Read → source.after ≡ source.before) → source.before ≤ source.after
-    → sink.before ≤ sink.after → EndsRightly alone words source sink e
-refusal_rightly alone words source sink r e status reason found line log stays later sunk =
+    → sink.before ≤ sink.after → EndsRightly crew words source sink e
+refusal_rightly crew words source sink r e status reason found line log stays later sunk =
     let t = told_reason words source r e.fault e.image reason found in
     record {
       status = status;

@@ -1,5 +1,5 @@
 -- Runs of the machine, and the program whose image runs there.
-use Rattle.std.proofs.Common.{◌≡◌, Bool, inl, inr, ◌⊎◌, ◌<◌, ◌≤◌, List, ◌++◌, length, Some, None, sym, ap, subst, ◌∙◌}
+use Rattle.std.proofs.Common.{◌≡◌, inl, inr, ◌⊎◌, ◌<◌, ◌≤◌, List, ◌++◌, length, Some, None, sym, ap, subst, ◌∙◌}
 use Rattle.std.specs.List.{All}
 use Rattle.lb_trace.specs.declared.Entry.{Entry}
 use Rattle.lb_trace.specs.Frame.{FrameContent}
@@ -25,15 +25,16 @@ use Rattle.lb_system.specs.Questions.{mode_reads, reads}
 use Rattle.lb_system.specs.Answers.{Port, IsCrewsLog, IsRead, IsReadLog, IsReport, CrewShows, Shows, ShowsLamp, ShowsMachine, ShowsRun, WritesReport, most_input, workers_of}
 use Rattle.lb_system.specs.Headline.{IsFullLog, IsLogOf, RunsItsMachine, RunsMachine, RunsTheLamp}
 use Rattle.lb_system.proofs.TopLemmas.{one_request}
+use Rattle.lb_system.specs.declared.crew.Workers.{Workers}
 
 -- ---- the log of a crew
 
-crews_fixed : (alone : Bool) (job : Job) (on : MachineJob) (log : List Entry) → (c : IsCrewsLog alone job on log) → c.ended.fixed ≡ record { job = on; max_events = job.events }
-crews_fixed alone job on log c = c.finishes.fixed ∙ c.boots.0
+crews_fixed : (crew : Workers) (job : Job) (on : MachineJob) (log : List Entry) → (c : IsCrewsLog crew job on log) → c.ended.fixed ≡ record { job = on; max_events = job.events }
+crews_fixed crew job on log c = c.finishes.fixed ∙ c.boots.0
 
-crews_legal : (alone : Bool) (job : Job) (on : MachineJob) (log : List Entry) → IsCrewsLog alone job on log → IsLegal on log
-crews_legal alone job on log c =
-    subst (IsLegal on) (sym c.made) (subst (λ (f : FixedContent). IsLegal f.job c.ended.log) (crews_fixed alone job on log c) c.finishes.replay.legal)
+crews_legal : (crew : Workers) (job : Job) (on : MachineJob) (log : List Entry) → IsCrewsLog crew job on log → IsLegal on log
+crews_legal crew job on log c =
+    subst (IsLegal on) (sym c.made) (subst (λ (f : FixedContent). IsLegal f.job c.ended.log) (crews_fixed crew job on log c) c.finishes.replay.legal)
 
 -- where the machine has ended
 ended_so : (job : Job) (on : MachineJob) (log : List Entry) (m : MachineContent) → m.fixed ≡ record { job = on; max_events = job.events } → log ≡ m.log → HasEnded m
@@ -50,22 +51,22 @@ ended_so job on log m fixed made ended =
           )
     ]
 
-crews_full : (alone : Bool) (job : Job) (on : MachineJob) (log : List Entry) → IsCrewsLog alone job on log → IsFullLog alone job on log
-crews_full alone job on log c =
+crews_full : (crew : Workers) (job : Job) (on : MachineJob) (log : List Entry) → IsCrewsLog crew job on log → IsFullLog crew job on log
+crews_full crew job on log c =
     let added : log ≡ c.finishes.added = c.made ∙ c.finishes.begins ∙ ap (λ l. l ++ c.finishes.added) c.boots.1 in
     record {
-      ended = ended_so job on log c.ended (crews_fixed alone job on log c) c.made c.finishes.ended;
-      workers = subst (All (λ e. e.worker < workers_of alone job)) (sym added) c.finishes.workers_below;
+      ended = ended_so job on log c.ended (crews_fixed crew job on log c) c.made c.finishes.ended;
+      workers = subst (All (λ e. e.worker < workers_of crew job)) (sym added) c.finishes.workers_below;
     }
 
 -- ---- any program
 
 -- from what is shown of a program's machine to the headline
-machine_runs : MachinesKeep → (alone : Bool) (words : List Text) (source sink : Port) (job : Job) (e : Ended) (text input : Text) (IsLog : MachineJob → List Entry → Type 0)
-    → ((on : MachineJob) (log : List Entry) → IsLog on log → IsLegal on log) → ((on : MachineJob) (log : List Entry) → IsLog on log → IsLogOf alone job.mode job input on log)
+machine_runs : MachinesKeep → (crew : Workers) (words : List Text) (source sink : Port) (job : Job) (e : Ended) (text input : Text) (IsLog : MachineJob → List Entry → Type 0)
+    → ((on : MachineJob) (log : List Entry) → IsLog on log → IsLegal on log) → ((on : MachineJob) (log : List Entry) → IsLog on log → IsLogOf crew job.mode job input on log)
     → ReadsAll source.old source.new input → length input ≤ most_input → WritesReport sink e.fault text → ShowsRun IsLog job input (shown_by e text)
-    → RunsItsMachine alone job source sink e
-machine_runs laws alone words source sink job e text input IsLog legal made read short written it =
+    → RunsItsMachine crew job source sink e
+machine_runs laws crew words source sink job e text input IsLog legal made read short written it =
     let frames : List FrameContent = it.0 in
     let p : List Procedure = it.2.0 in
     let shows : ShowsMachine IsLog (IsMachineReport job) frames (shown_by e text) p = it.2.2 in
@@ -90,50 +91,50 @@ machine_runs laws alone words source sink job e text input IsLog legal made read
       runs = laws p shows.i frames e.log.items shows.compiled.keeps lawful;
     }
 
-pub report_runs_machine : MachinesKeep → (alone : Bool) (words : List Text) (source sink : Port) (job : Job) (e : Ended) (text : Text) → IsReport alone words source (shown_by e text)
-    → WritesReport sink e.fault text → IsRequest words job → RunsMachine job.mode → RunsItsMachine alone job source sink e
-report_runs_machine laws alone words source sink job e text r written asked is =
+pub report_runs_machine : MachinesKeep → (crew : Workers) (words : List Text) (source sink : Port) (job : Job) (e : Ended) (text : Text) → IsReport crew words source (shown_by e text)
+    → WritesReport sink e.fault text → IsRequest words job → RunsMachine job.mode → RunsItsMachine crew job source sink e
+report_runs_machine laws crew words source sink job e text r written asked is =
     let s = shown_by e text in
     let same_job = one_request words r.it.job job r.case.asked asked in
-    let shows : Shows alone job r.it.input s = subst (λ t. Shows alone t r.it.input s) same_job r.shows in
+    let shows : Shows crew job r.it.input s = subst (λ t. Shows crew t r.it.input s) same_job r.shows in
     elim is [
       | inl run ↦ (
-          let it : ShowsRun (IsCrewsLog alone job) job r.it.input s = subst (λ m. CrewShows alone m job r.it.input s) run shows in
+          let it : ShowsRun (IsCrewsLog crew job) job r.it.input s = subst (λ m. CrewShows crew m job r.it.input s) run shows in
           let read : ReadsAll source.old source.new r.it.input = subst (λ b. IsRead b source r.it.input) (ap reads same_job ∙ ap mode_reads run) r.case.read in
-          machine_runs laws alone words source sink job e text r.it.input (IsCrewsLog alone job) (crews_legal alone job)
-          (λ on log h. subst (λ m. IsLogOf alone m job r.it.input on log) (sym run) (crews_full alone job on log h)) read r.case.short written it
+          machine_runs laws crew words source sink job e text r.it.input (IsCrewsLog crew job) (crews_legal crew job)
+          (λ on log h. subst (λ m. IsLogOf crew m job r.it.input on log) (sym run) (crews_full crew job on log h)) read r.case.short written it
           )
       | inr replay ↦ (
-          let it : ShowsRun (IsReadLog r.it.input) job r.it.input s = subst (λ m. CrewShows alone m job r.it.input s) replay shows in
+          let it : ShowsRun (IsReadLog r.it.input) job r.it.input s = subst (λ m. CrewShows crew m job r.it.input s) replay shows in
           let read : ReadsAll source.old source.new r.it.input = subst (λ b. IsRead b source r.it.input) (ap reads same_job ∙ ap mode_reads replay) r.case.read in
-          machine_runs laws alone words source sink job e text r.it.input (IsReadLog r.it.input) (λ on log h. h.1)
-          (λ on log h. subst (λ m. IsLogOf alone m job r.it.input on log) (sym replay) h.0) read r.case.short written it
+          machine_runs laws crew words source sink job e text r.it.input (IsReadLog r.it.input) (λ on log h. h.1)
+          (λ on log h. subst (λ m. IsLogOf crew m job r.it.input on log) (sym replay) h.0) read r.case.short written it
           )
     ]
 
 -- ---- the lamp
 
 -- a log that is full or halts the core, and doesn't halt it
-full_unhalted : (alone : Bool) (job : Job) (on : MachineJob) (log : List Entry) → IsFullLog alone job on log → halted_after on log ≡ None → length log ≡ job.events
-full_unhalted alone job on log full runs =
+full_unhalted : (crew : Workers) (job : Job) (on : MachineJob) (log : List Entry) → IsFullLog crew job on log → halted_after on log ≡ None → length log ≡ job.events
+full_unhalted crew job on log full runs =
     elim full.ended [
       | inl whole ↦ whole
       | inr halted ↦ (let cause : Cause = halted.0 in let no : ⊥ = cc (runs, halted.1) in absurd no)
     ]
 
-pub report_runs_lamp : MachinesKeep → LampKeeps → (alone : Bool) (words : List Text) (source sink : Port) (job : Job) (e : Ended) (text : Text) → IsReport alone words source (shown_by e text)
-    → WritesReport sink e.fault text → IsRequest words job → job.mode ≡ mode.Lamp → RunsTheLamp alone job source sink e
-report_runs_lamp laws lamps alone words source sink job e text r written asked is =
+pub report_runs_lamp : MachinesKeep → LampKeeps → (crew : Workers) (words : List Text) (source sink : Port) (job : Job) (e : Ended) (text : Text) → IsReport crew words source (shown_by e text)
+    → WritesReport sink e.fault text → IsRequest words job → job.mode ≡ mode.Lamp → RunsTheLamp crew job source sink e
+report_runs_lamp laws lamps crew words source sink job e text r written asked is =
     let s = shown_by e text in
     let same_job = one_request words r.it.job job r.case.asked asked in
-    let shown : Shows alone job r.it.input s = subst (λ t. Shows alone t r.it.input s) same_job r.shows in
-    let it : ShowsLamp alone job r.it.input s = subst (λ m. CrewShows alone m job r.it.input s) is shown in
+    let shown : Shows crew job r.it.input s = subst (λ t. Shows crew t r.it.input s) same_job r.shows in
+    let it : ShowsLamp crew job r.it.input s = subst (λ m. CrewShows crew m job r.it.input s) is shown in
     let read : ReadsAll source.old source.new r.it.input = subst (λ b. IsRead b source r.it.input) (ap reads same_job ∙ ap mode_reads is) r.case.read in
     let frames : List FrameContent = it.0 in
-    let shows : ShowsMachine (IsCrewsLog alone job) (IsLampReport job) frames s supplied = it.2 in
+    let shows : ShowsMachine (IsCrewsLog crew job) (IsLampReport job) frames s supplied = it.2 in
     let on = job_on shows.i frames in
-    let lawful = crews_legal alone job on e.log.items shows.made in
-    let full = crews_full alone job on e.log.items shows.made in
+    let lawful = crews_legal crew job on e.log.items shows.made in
+    let full = crews_full crew job on e.log.items shows.made in
     let lamp = lamps shows.i frames e.log.items shows.compiled.keeps lawful in
     record {
       text = r.it.input;
@@ -145,7 +146,7 @@ report_runs_lamp laws lamps alone words source sink job e text r written asked i
       shown = shows.shown;
       compiled = shows.compiled;
       legal = lawful;
-      full = full_unhalted alone job on e.log.items full lamp.runs;
+      full = full_unhalted crew job on e.log.items full lamp.runs;
       made = full;
       report = text;
       told = shows.told;

@@ -1,5 +1,5 @@
 -- A run of the image's code, and the program that was compiled.
-use Rattle.std.proofs.Common.{◌≡◌, ℕ, Bool, List, [], ◌∷◌, ◌++◌, sym, ap, ◌∙◌, subst}
+use Rattle.std.proofs.Common.{◌≡◌, ℕ, List, [], ◌∷◌, ◌++◌, sym, ap, ◌∙◌, subst}
 use Rattle.lb_syntax.specs.Tree.{Procedure}
 use Rattle.lb_source.specs.Correct.{AreWords}
 use Rattle.lb_image.specs.declared.image.Image.{Image}
@@ -21,6 +21,7 @@ use Rattle.lb_system.specs.Questions.{mode_reads, reads}
 use Rattle.lb_system.specs.Answers.{Port, IsRead, IsReport, CrewShows, Shows, ShowsReplied, WritesReport}
 use Rattle.lb_system.specs.Headline.{RunsItsImage}
 use Rattle.lb_system.proofs.TopLemmas.{one_request}
+use Rattle.lb_system.specs.declared.crew.Workers.{Workers}
 
 -- ---- replies are words
 
@@ -36,13 +37,13 @@ said_words (line ∷ lines) vs h =
 -- ---- the run and the program
 
 -- where the mode is `isa`, the report is that of a run of the image of the program that was read
-pub report_runs_image : (alone : Bool) (words : List Text) (source sink : Port) (job : Job) (e : Ended) (text : Text) → IsReport alone words source (shown_by e text) → WritesReport sink e.fault text
+pub report_runs_image : (crew : Workers) (words : List Text) (source sink : Port) (job : Job) (e : Ended) (text : Text) → IsReport crew words source (shown_by e text) → WritesReport sink e.fault text
     → IsRequest words job → job.mode ≡ mode.Isa → RunsItsImage job source sink e
-report_runs_image alone words source sink job e text r written asked is =
+report_runs_image crew words source sink job e text r written asked is =
     let s = shown_by e text in
     let same_job = one_request words r.it.job job r.case.asked asked in
-    let shows : Shows alone job r.it.input s = subst (λ t. Shows alone t r.it.input s) same_job r.shows in
-    let it : ShowsReplied (λ p. isa_report job) r.it.input s = subst (λ m. CrewShows alone m job r.it.input s) is shows in
+    let shows : Shows crew job r.it.input s = subst (λ t. Shows crew t r.it.input s) same_job r.shows in
+    let it : ShowsReplied (λ p. isa_report job) r.it.input s = subst (λ m. CrewShows crew m job r.it.input s) is shows in
     let read : ReadsAll source.old source.new r.it.input = subst (λ b. IsRead b source r.it.input) (ap reads same_job ∙ ap mode_reads is) r.case.read in
     let replies : List ℕ = it.0 in
     let p : List Procedure = it.2.0 in

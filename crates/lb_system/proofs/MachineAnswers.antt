@@ -1,5 +1,5 @@
 -- What is shown of a machine, from what its mode made.
-use Rattle.std.proofs.Common.{◌≡◌, inl, inr, ℕ, Bool, ◌≤◌, List, [], ◌∷◌, ◌++◌, length, Some, refl, sym, ap, subst, ◌∙◌}
+use Rattle.std.proofs.Common.{◌≡◌, inl, inr, ℕ, ◌≤◌, List, [], ◌∷◌, ◌++◌, length, Some, refl, sym, ap, subst, ◌∙◌}
 use Rattle.lb_trace.specs.declared.Entry.{Entry}
 use Rattle.lb_trace.specs.Frame.{FrameContent}
 use Rattle.lb_syntax.specs.Names.{Text}
@@ -32,21 +32,22 @@ use Rattle.lb_system.specs.InternalAnswers.{IsCrewAnswer, IsCrewsMachine, IsMode
 use Rattle.lb_system.proofs.QuestionLemmas.{first_behind}
 use Rattle.lb_system.proofs.AskLemmas.{of_all}
 use Rattle.lb_system.proofs.MachineReports.{replayed_trace}
+use Rattle.lb_system.specs.declared.crew.Workers.{Workers}
 
 -- the job of a crew's machine
-crews_job : (alone : Bool) (job : Job) (on : MachineJob) (m : MachineContent) → IsCrewsMachine alone job on m → m.fixed.job ≡ on
-crews_job alone job on m c = ap (λ f. f.job) (c.finishes.fixed ∙ c.boots.0)
+crews_job : (crew : Workers) (job : Job) (on : MachineJob) (m : MachineContent) → IsCrewsMachine crew job on m → m.fixed.job ≡ on
+crews_job crew job on m c = ap (λ f. f.job) (c.finishes.fixed ∙ c.boots.0)
 
-crews_log : (alone : Bool) (job : Job) (on : MachineJob) (m : MachineContent) → IsCrewsMachine alone job on m → IsCrewsLog alone job on m.log
-crews_log alone job on m c = record { booted = c.booted; ended = m; boots = c.boots; finishes = c.finishes; made = refl }
+crews_log : (crew : Workers) (job : Job) (on : MachineJob) (m : MachineContent) → IsCrewsMachine crew job on m → IsCrewsLog crew job on m.log
+crews_log crew job on m c = record { booted = c.booted; ended = m; boots = c.boots; finishes = c.finishes; made = refl }
 
 -- the trace of the lamp's machine
-pub crews_begins : LampKeeps → (alone : Bool) (job : Job) (i : Image) (frames : List FrameContent) (m : MachineContent) → IsCompiled supplied i → IsCrewsMachine alone job (job_on i frames) m
+pub crews_begins : LampKeeps → (crew : Workers) (job : Job) (i : Image) (frames : List FrameContent) (m : MachineContent) → IsCompiled supplied i → IsCrewsMachine crew job (job_on i frames) m
     → Begins good m.trace
-crews_begins lamps alone job i frames m compiled crews =
+crews_begins lamps crew job i frames m compiled crews =
     let on = job_on i frames in
-    let legal : IsLegal on m.log = subst (λ j. IsLegal j m.log) (crews_job alone job on m crews) crews.finishes.replay.legal in
-    let same : m.trace ≡ trace_after on m.log = replayed_trace m crews.finishes.replay ∙ ap (λ j. trace_after j m.log) (crews_job alone job on m crews) in
+    let legal : IsLegal on m.log = subst (λ j. IsLegal j m.log) (crews_job crew job on m crews) crews.finishes.replay.legal in
+    let same : m.trace ≡ trace_after on m.log = replayed_trace m crews.finishes.replay ∙ ap (λ j. trace_after j m.log) (crews_job crew job on m crews) in
     subst (Begins good) (sym same) (lamps i frames m.log compiled.keeps legal).begins
 
 -- ---- run
@@ -55,12 +56,12 @@ pub framed_holds : (c : Case) (most : ℕ) (p : List Procedure) (frames : List F
     → AllHold c (Sections most ∷ (checked ++ InForm Frames 1 ∷ []))
 framed_holds c most p frames o rules said = (o.few, ((p, o.text.accepted), (of_all KeepsRules o.text rules, ((frames, said), tt))))
 
-pub run_made : (alone : Bool) (job : Job) (input : Text) (p : List Procedure) (frames : List FrameContent) (i : Image) (m : MachineContent) (text : Text) (s : View) → IsOpened 2 input p
-    → SaysFrames (section 1 input) frames → IsCompiled p i → IsCrewsMachine alone job (job_on i frames) m → IsMachineReport job m.fixed.job m.log text → s ≡ with_log text m.log i
-    → IsCrewAnswer alone mode.Run job input s
-run_made alone job input p frames i m text s o said compiled crews told e =
+pub run_made : (crew : Workers) (job : Job) (input : Text) (p : List Procedure) (frames : List FrameContent) (i : Image) (m : MachineContent) (text : Text) (s : View) → IsOpened 2 input p
+    → SaysFrames (section 1 input) frames → IsCompiled p i → IsCrewsMachine crew job (job_on i frames) m → IsMachineReport job m.fixed.job m.log text → s ≡ with_log text m.log i
+    → IsCrewAnswer crew mode.Run job input s
+run_made crew job input p frames i m text s o said compiled crews told e =
     let on = job_on i frames in
-    let it : IsCrewAnswer alone mode.Run job input (with_log text m.log i) = (
+    let it : IsCrewAnswer crew mode.Run job input (with_log text m.log i) = (
       framed_holds (case_of job input (Some i)) 2 p frames o compiled.rules said,
       (
         frames,
@@ -72,22 +73,22 @@ run_made alone job input p frames i m text s o said compiled crews told e =
             i = i;
             compiled = compiled;
             shown = refl;
-            made = crews_log alone job on m crews;
-            told = subst (λ j. IsMachineReport job j m.log text) (crews_job alone job on m crews) told;
+            made = crews_log crew job on m crews;
+            told = subst (λ j. IsMachineReport job j m.log text) (crews_job crew job on m crews) told;
           },
         ),
       ),
     ) in
-    subst (IsCrewAnswer alone mode.Run job input) (sym e) it
+    subst (IsCrewAnswer crew mode.Run job input) (sym e) it
 
 -- ---- lamp
 
-pub lamp_made : (alone : Bool) (job : Job) (input : Text) (frames : List FrameContent) (i : Image) (m : MachineContent) (text : Text) (s : View) → length (sections input) ≤ 1
-    → SaysFrames (section 0 input) frames → IsCompiled supplied i → IsCrewsMachine alone job (job_on i frames) m → IsLampReport job m.fixed.job m.log text → s ≡ with_log text m.log i
-    → IsCrewAnswer alone mode.Lamp job input s
-lamp_made alone job input frames i m text s few said compiled crews told e =
+pub lamp_made : (crew : Workers) (job : Job) (input : Text) (frames : List FrameContent) (i : Image) (m : MachineContent) (text : Text) (s : View) → length (sections input) ≤ 1
+    → SaysFrames (section 0 input) frames → IsCompiled supplied i → IsCrewsMachine crew job (job_on i frames) m → IsLampReport job m.fixed.job m.log text → s ≡ with_log text m.log i
+    → IsCrewAnswer crew mode.Lamp job input s
+lamp_made crew job input frames i m text s few said compiled crews told e =
     let on = job_on i frames in
-    let it : IsCrewAnswer alone mode.Lamp job input (with_log text m.log i) = (
+    let it : IsCrewAnswer crew mode.Lamp job input (with_log text m.log i) = (
       (few, ((frames, said), tt)),
       (
         frames,
@@ -96,12 +97,12 @@ lamp_made alone job input frames i m text s few said compiled crews told e =
           i = i;
           compiled = compiled;
           shown = refl;
-          made = crews_log alone job on m crews;
-          told = subst (λ j. IsLampReport job j m.log text) (crews_job alone job on m crews) told;
+          made = crews_log crew job on m crews;
+          told = subst (λ j. IsLampReport job j m.log text) (crews_job crew job on m crews) told;
         },
       ),
     ) in
-    subst (IsCrewAnswer alone mode.Lamp job input) (sym e) it
+    subst (IsCrewAnswer crew mode.Lamp job input) (sym e) it
 
 -- ---- replay
 

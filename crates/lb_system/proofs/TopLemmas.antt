@@ -18,6 +18,7 @@ use Rattle.lb_system.specs.Questions.{Case, Question, Legal, AllHold, IsFirstNo,
 use Rattle.lb_system.specs.Answers.{Known, Port, Failed, IsRead, IsLeft, IsCase, IsKnownCase, IsTooMuch, AskForInput, ReadFails, IsOfInput, HasCause, FitsImage, UnlessMemory, TellsOf, HasReport, ShowsForm, IsReport, WritesReport, most_input}
 use Rattle.lb_system.specs.InternalAnswers.{IsReason, IsRefusalOf, IsTold, case_of}
 use Rattle.lb_system.proofs.QuestionLemmas.{none_first, one_first, only_legal}
+use Rattle.lb_system.specs.declared.crew.Workers.{Workers}
 
 some_same : {X : Type 0} (x y : X) → Some x ≡ Some y → x ≡ y
 some_same x y e = cc
@@ -229,15 +230,15 @@ told_fits words source f i =
 -- ---- a report
 
 -- in the known case no answer is no
-pub report_first : (alone : Bool) (words : List Text) (source : Port) (s : View) (c : Case) (q : Question) → IsReport alone words source s → IsKnownCase words source s.image c → IsFirstNo c (asks c) q → ⊥
-report_first alone words source s c q r k first =
+pub report_first : (crew : Workers) (words : List Text) (source : Port) (s : View) (c : Case) (q : Question) → IsReport crew words source s → IsKnownCase words source s.image c → IsFirstNo c (asks c) q → ⊥
+report_first crew words source s c q r k first =
     none_first c (asks c) q (subst (λ x. AllHold x (asks x)) (one_case words source s.image r.it c r.case k) r.all) first
 
-pub report_much : (alone : Bool) (words : List Text) (source : Port) (s : View) (bytes : Text) → IsReport alone words source s → IsTooMuch words source bytes → ⊥
-report_much alone words source s bytes r much = case_short words source s.image bytes r.it r.case much
+pub report_much : (crew : Workers) (words : List Text) (source : Port) (s : View) (bytes : Text) → IsReport crew words source s → IsTooMuch words source bytes → ⊥
+report_much crew words source s bytes r much = case_short words source s.image bytes r.it r.case much
 
-pub report_form : (alone : Bool) (words : List Text) (source : Port) (s : View) → IsReport alone words source s → AreInForm words
-report_form alone words source s r = (r.it.job, r.case.asked)
+pub report_form : (crew : Workers) (words : List Text) (source : Port) (s : View) → IsReport crew words source s → AreInForm words
+report_form crew words source s r = (r.it.job, r.case.asked)
 
 -- with a report there is no fault, or its write was refused
 pub written_cases : (sink : Port) (report : Text) (P : Option Fault → Type 0) → P None → P (Some fault.Write) → (told : Option Fault) → WritesReport sink told report → P told

@@ -36,8 +36,10 @@ use Rattle.lb_system.specs.RunReport.{interp_report, isa_report}
 use Rattle.lb_system.specs.MachineReport.{IsMachineReport, IsLampReport, IsVerdict, verdict_text}
 use Rattle.lb_system.specs.LargeReport.{ShowsLarge}
 use Rattle.lb_system.specs.Faults.{fault_line}
-use Rattle.lb_system.specs.Views.{View, alone, with_image, shown_by}
+use Rattle.lb_system.specs.Views.{View, of_report, with_image, shown_by}
 use Rattle.lb_system.specs.Questions.{Case, Question, OfProgram, SaysReplies, SaysEvents, SaysFrames, SaysLog, Tells, AllHold, IsCause, asks, is_image, reads}
+use Rattle.lb_system.specs.declared.crew.Workers.{Workers}
+use Rattle.lb_system.specs.declared.crew.Workers.TheVariants as workers
 
 -- ---- what each mode shows where every answer is yes
 
@@ -50,10 +52,10 @@ pub record IsCheckReport (p : List Procedure) (report : Text) : Type 0 where
 
 -- what is shown of the source's program: what it asks for, or its canonical text
 abbrev pub ShowsNeeds : View → List Procedure → Type 0
-ShowsNeeds s p = IsCheckReport p s.report × (s ≡ alone s.report)
+ShowsNeeds s p = IsCheckReport p s.report × (s ≡ of_report s.report)
 
 abbrev pub ShowsText : View → List Procedure → Type 0
-ShowsText s p = s ≡ alone (program_text p)
+ShowsText s p = s ≡ of_report (program_text p)
 
 -- a report over the program's image, and that image
 abbrev pub ShowsImage : (Image → Text) → View → List Procedure → Type 0
@@ -68,22 +70,22 @@ ShowsReplied report input s =
 -- the listing of an image, or of the image of the source's program
 abbrev pub ShowsListing : Bool → Text → View → Type 0
 ShowsListing true input s =
-    (i : Image) × IsImage i × (input ≡ image_bytes i) × (s ≡ alone (list_report i))
+    (i : Image) × IsImage i × (input ≡ image_bytes i) × (s ≡ of_report (list_report i))
 ShowsListing false input s = OfProgram input (ShowsImage list_report s)
 
--- how many workers fire a machine's kinds: one where it is alone, whatever the job says
-abbrev pub workers_of : Bool → Job → ℕ
-workers_of true job = 1
-workers_of false job = job.workers
+-- how many workers fire a machine's kinds: worker 0 alone, or as many as the job says
+abbrev pub workers_of : Workers → Job → ℕ
+workers_of workers.Alone job = 1
+workers_of workers.AsAsked job = job.workers
 
 -- a crew went on from boot, with a log of at most as many entries as the job has events, until the log
 -- was full or the core halted
-pub record IsCrewsLog (alone : Bool) (job : Job) (on : MachineJob) (log : List Entry)
+pub record IsCrewsLog (crew : Workers) (job : Job) (on : MachineJob) (log : List Entry)
     : Type 0 where
   pub booted : MachineContent
   pub ended : MachineContent
   pub boots : IsBooted on job.events booted
-  pub finishes : Finishes job.seed (workers_of alone job) booted ended
+  pub finishes : Finishes job.seed (workers_of crew job) booted ended
   pub made : log ≡ ended.log
 
 -- the log is legal, and the third section says it
@@ -108,16 +110,16 @@ ShowsRun IsLog job input s =
     × OfProgram input (ShowsMachine IsLog (IsMachineReport job) frames s)
 
 -- of the supplied program, while the frames of the only section arrive
-abbrev pub ShowsLamp : Bool → Job → Text → View → Type 0
-ShowsLamp alone job input s =
+abbrev pub ShowsLamp : Workers → Job → Text → View → Type 0
+ShowsLamp crew job input s =
     (frames : List FrameContent) × SaysFrames (section 0 input) frames
-    × ShowsMachine (IsCrewsLog alone job) (IsLampReport job) frames s supplied
+    × ShowsMachine (IsCrewsLog crew job) (IsLampReport job) frames s supplied
 
 -- the verdict on the events that the only section says
 abbrev pub ShowsVerdict : Text → View → Type 0
 ShowsVerdict input s =
     (events : List Event) × (verdict : Verdict) × SaysEvents (section 0 input) events
-    × IsVerdict events verdict × (s ≡ alone (verdict_text verdict))
+    × IsVerdict events verdict × (s ≡ of_report (verdict_text verdict))
 
 -- what each mode without a crew shows of its input
 abbrev pub ModeShows : Mode → Job → Text → View → Type 0
@@ -133,13 +135,13 @@ ModeShows mode.Gen job input s = ShowsLarge job s
 ModeShows _ job input s = ⊥
 
 -- and each mode
-abbrev pub CrewShows : Bool → Mode → Job → Text → View → Type 0
-CrewShows alone mode.Run job input s = ShowsRun (IsCrewsLog alone job) job input s
-CrewShows alone mode.Lamp job input s = ShowsLamp alone job input s
-CrewShows alone m job input s = ModeShows m job input s
+abbrev pub CrewShows : Workers → Mode → Job → Text → View → Type 0
+CrewShows crew mode.Run job input s = ShowsRun (IsCrewsLog crew job) job input s
+CrewShows crew mode.Lamp job input s = ShowsLamp crew job input s
+CrewShows crew m job input s = ModeShows m job input s
 
-abbrev pub Shows : Bool → Job → Text → View → Type 0
-Shows alone job input s = CrewShows alone job.mode job input s
+abbrev pub Shows : Workers → Job → Text → View → Type 0
+Shows crew job input s = CrewShows crew job.mode job input s
 
 -- ---- the input
 
@@ -261,11 +263,11 @@ ShowsForm _ = Unit {0}
 -- ---- what is shown and written
 
 -- in the case of the words and what was read all the answers are yes, and this is what is shown of it
-pub record IsReport (alone : Bool) (words : List Text) (source : Port) (s : View) : Type 0 where
+pub record IsReport (crew : Workers) (words : List Text) (source : Port) (s : View) : Type 0 where
   pub it : Case
   pub case : IsCase words source s.image it
   pub all : AllHold it (asks it)
-  pub shows : Shows alone it.job it.input s
+  pub shows : Shows crew it.job it.input s
 
 -- the text was written whole, or a part of it, and then the count of the sink's faults rose
 abbrev pub IsWrittenOrCut : Port → Text → Type 0
@@ -287,6 +289,6 @@ WritesReport sink (Some _) report = ⊥
 
 -- what a call that ended so shows is the report of what was asked for on what was read, and its text
 -- was written
-abbrev pub IsReported : Bool → List Text → Port → Port → Ended → Type 0
-IsReported alone words source sink e =
-    (text : Text) × IsReport alone words source (shown_by e text) × WritesReport sink e.fault text
+abbrev pub IsReported : Workers → List Text → Port → Port → Ended → Type 0
+IsReported crew words source sink e =
+    (text : Text) × IsReport crew words source (shown_by e text) × WritesReport sink e.fault text

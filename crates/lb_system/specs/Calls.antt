@@ -1,5 +1,5 @@
 -- What the top call owes to its caller, whoever fires the machine's kinds.
-use Rattle.std.specs.Prelude.{◌≡◌, ◌≢◌, ◌≤◌, ◌⊎◌, Bool, List, None, Some, IfSome, false}
+use Rattle.std.specs.Prelude.{◌≡◌, ◌≢◌, ◌≤◌, ◌⊎◌, List, None, Some, IfSome, false}
 use Rattle.lb_ports.specs.Bytes.{ReadsUpTo, ReadsMoreThan}
 use Rattle.lb_syntax.specs.Names.{Text}
 use Rattle.lb_words.specs.declared.job.Job.{Job}
@@ -9,10 +9,11 @@ use Rattle.lb_system.specs.Request.{AreInForm, IsRequest}
 use Rattle.lb_system.specs.Faults.{status_of}
 use Rattle.lb_system.specs.Questions.{Case, Question, Legal, AllHold, IsFirstNo, asks, but_legal, reads}
 use Rattle.lb_system.specs.Answers.{Port, Failed, HasCause, HasReport, IsKnownCase, IsOfInput, IsReported, IsTooMuch, ReadFails, ShowsForm, ShowsNothing, TellsOf, UnlessMemory, WritesLine, most_input}
+use Rattle.lb_system.specs.declared.crew.Workers.{Workers}
 
--- a call with these words, this source and this sink ended rightly; one worker alone fires the kinds of
--- a machine, or as many as the job says
-pub record EndsRightly (alone : Bool) (words : List Text) (source sink : Port) (e : Ended)
+-- a call with these words, this source and this sink ended rightly; worker 0 alone fires the kinds of a
+-- machine, or as many workers as the job says
+pub record EndsRightly (crew : Workers) (words : List Text) (source sink : Port) (e : Ended)
     : Type 0 where
   pub status : e.status ≡ status_of e.fault
   -- the words are in form, unless the answer is that they aren't, or want of memory
@@ -33,7 +34,7 @@ pub record EndsRightly (alone : Bool) (words : List Text) (source sink : Port) (
   -- the report; it is whole where all the answers are yes and nothing fails. Where but the last of them
   -- need be yes, whether a log is legal, it is whole, or the fault tells the first entry that can't be
   -- fired
-  pub report : HasReport e.fault → IsReported alone words source sink e
+  pub report : HasReport e.fault → IsReported crew words source sink e
   pub complete : (c : Case) → IsKnownCase words source e.image c → AllHold c (asks c)
       → ¬ (Failed sink) → UnlessMemory e.fault (e.fault ≡ None)
   pub replayed : (c : Case) → IsKnownCase words source e.image c → AllHold c (but_legal (asks c))

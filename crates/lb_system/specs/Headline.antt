@@ -1,5 +1,5 @@
 -- What the runs of the modes `isa`, `run`, `replay` and `lamp` have to do with their program.
-use Rattle.std.specs.Prelude.{◌≡◌, ℕ, ◌<◌, ◌≤◌, ◌⊎◌, Bool, List, length, All, Some}
+use Rattle.std.specs.Prelude.{◌≡◌, ℕ, ◌<◌, ◌≤◌, ◌⊎◌, List, length, All, Some}
 use Rattle.lb_trace.specs.declared.Entry.{Entry}
 use Rattle.lb_trace.specs.Frame.{FrameContent}
 use Rattle.lb_ports.specs.Bytes.{ReadsAll}
@@ -24,6 +24,7 @@ use Rattle.lb_system.specs.RunReport.{isa_report}
 use Rattle.lb_system.specs.MachineReport.{IsMachineReport, IsLampReport}
 use Rattle.lb_system.specs.Questions.{SaysReplies, SaysFrames, SaysLog, source}
 use Rattle.lb_system.specs.Answers.{Port, WritesReport, most_input, workers_of}
+use Rattle.lb_system.specs.declared.crew.Workers.{Workers}
 
 -- ---- the instruction-set machine
 
@@ -48,17 +49,17 @@ pub record RunsItsImage (job : Job) (source_port sink : Port) (e : Ended) : Type
 
 -- the log has as many entries as the job has events, or the core is halted; and each entry's worker is
 -- one of those that fire
-pub record IsFullLog (alone : Bool) (job : Job) (on : MachineJob) (log : List Entry)
+pub record IsFullLog (crew : Workers) (job : Job) (on : MachineJob) (log : List Entry)
     : Type 0 where
   pub ended : (length log ≡ job.events)
       ⊎ ((cause : Cause) × (halted_after on log ≡ Some cause))
-  pub workers : All (λ e. e.worker < workers_of alone job) log
+  pub workers : All (λ e. e.worker < workers_of crew job) log
 
 -- the log of each mode that has one: of `run` a full one, of `replay` the one that was read
-abbrev pub IsLogOf : Bool → Mode → Job → Text → MachineJob → List Entry → Type 0
-IsLogOf alone mode.Run job text on log = IsFullLog alone job on log
-IsLogOf alone mode.Replay job text on log = SaysLog (section 2 text) log
-IsLogOf alone _ job text on log = ⊥
+abbrev pub IsLogOf : Workers → Mode → Job → Text → MachineJob → List Entry → Type 0
+IsLogOf crew mode.Run job text on log = IsFullLog crew job on log
+IsLogOf crew mode.Replay job text on log = SaysLog (section 2 text) log
+IsLogOf crew _ job text on log = ⊥
 
 -- in these modes the source's program runs on the machine
 abbrev pub RunsMachine : Mode → Type 0
@@ -68,7 +69,7 @@ RunsMachine m = (m ≡ mode.Run) ⊎ (m ≡ mode.Replay)
 -- frames; the image that is shown is that program's; the log that is shown is legal for the machine that
 -- runs this image while these frames arrive, and is that of the mode; what was written is the report of
 -- the machine after this log; and that is a run of the program
-pub record RunsItsMachine (alone : Bool) (job : Job) (source_port sink : Port) (e : Ended)
+pub record RunsItsMachine (crew : Workers) (job : Job) (source_port sink : Port) (e : Ended)
     : Type 0 where
   pub text : Text
   pub program : List Procedure
@@ -81,7 +82,7 @@ pub record RunsItsMachine (alone : Bool) (job : Job) (source_port sink : Port) (
   pub shown : e.image ≡ Some image
   pub compiled : IsCompiled program image
   pub legal : IsLegal (job_on image frames) e.log.items
-  pub made : IsLogOf alone job.mode job text (job_on image frames) e.log.items
+  pub made : IsLogOf crew job.mode job text (job_on image frames) e.log.items
   pub report : Text
   pub told : IsMachineReport job (job_on image frames) e.log.items report
   pub written : WritesReport sink e.fault report
@@ -93,7 +94,7 @@ pub record RunsItsMachine (alone : Bool) (job : Job) (source_port sink : Port) (
 -- program; the log that is shown is legal for the machine that runs this image while these frames
 -- arrive, and is full; what was written is the report of the machine after this log; and that is a run
 -- of the supplied program, which keeps to the lamp's grammar and isn't halted
-pub record RunsTheLamp (alone : Bool) (job : Job) (source_port sink : Port) (e : Ended)
+pub record RunsTheLamp (crew : Workers) (job : Job) (source_port sink : Port) (e : Ended)
     : Type 0 where
   pub text : Text
   pub frames : List FrameContent
@@ -105,7 +106,7 @@ pub record RunsTheLamp (alone : Bool) (job : Job) (source_port sink : Port) (e :
   pub compiled : IsCompiled supplied image
   pub legal : IsLegal (job_on image frames) e.log.items
   pub full : length e.log.items ≡ job.events
-  pub made : IsFullLog alone job (job_on image frames) e.log.items
+  pub made : IsFullLog crew job (job_on image frames) e.log.items
   pub report : Text
   pub told : IsLampReport job (job_on image frames) e.log.items report
   pub written : WritesReport sink e.fault report

@@ -1,5 +1,5 @@
 -- What the parts of the top call say. Only contracts of private functions cite it.
-use Rattle.std.specs.Prelude.{◌≡◌, ◌⊎◌, ℕ, Bool, ◌≤◌, List, length, Some, None}
+use Rattle.std.specs.Prelude.{◌≡◌, ◌⊎◌, ℕ, ◌≤◌, List, length, Some, None}
 use Rattle.std.specs.declared.option.Option.{Option}
 use Rattle.lb_ports.specs.Bytes.{ReadsUpTo, ReadsMoreThan}
 use Rattle.lb_syntax.specs.Names.{Text}
@@ -30,15 +30,16 @@ use Rattle.lb_system.specs.Faults.{IsLimit, TakesMemory}
 use Rattle.lb_system.specs.Views.{View}
 use Rattle.lb_system.specs.Questions.{Case, Question, Lines, HasLines, IsLineFault, questions, mode_questions, source, AllHold, IsCauseOf, BreaksRule, BreaksLimit}
 use Rattle.lb_system.specs.Answers.{Port, CrewShows, Shows, ModeShows, workers_of, AskForInput, ReadFails, IsOfInput, HasCause, FitsImage, most_input}
+use Rattle.lb_system.specs.declared.crew.Workers.{Workers}
 
 -- the job's case, with this image
 abbrev pub case_of : Job → Text → Option Image → Case
 case_of job input i = record { job = job; input = input; image = i }
 
 -- all the answers are yes, and this is what is shown
-abbrev pub IsAnswer : Bool → Job → Text → View → Type 0
-IsAnswer alone job input s =
-    AllHold (case_of job input s.image) (questions job input) × Shows alone job input s
+abbrev pub IsAnswer : Workers → Job → Text → View → Type 0
+IsAnswer crew job input s =
+    AllHold (case_of job input s.image) (questions job input) × Shows crew job input s
 
 -- the same of a mode
 abbrev pub IsModeAnswer : Mode → Job → Text → View → Type 0
@@ -46,9 +47,9 @@ IsModeAnswer m job input s =
     AllHold (case_of job input s.image) (mode_questions m input) × ModeShows m job input s
 
 -- of a mode with a crew
-abbrev pub IsCrewAnswer : Bool → Mode → Job → Text → View → Type 0
-IsCrewAnswer alone m job input s =
-    AllHold (case_of job input s.image) (mode_questions m input) × CrewShows alone m job input s
+abbrev pub IsCrewAnswer : Workers → Mode → Job → Text → View → Type 0
+IsCrewAnswer crew m job input s =
+    AllHold (case_of job input s.image) (mode_questions m input) × CrewShows crew m job input s
 
 -- why there is no answer: want of memory, or the first of the questions whose answer is no
 abbrev pub IsRefusalOf : List Question → Job → Text → Refused → Type 0
@@ -119,11 +120,11 @@ refused_log fault.Memory i = without_image fault.Memory
 refused_log f i = record { fault = f; image = Some i }
 
 -- the machine is that of the job, and a crew went on from boot until it ended
-pub record IsCrewsMachine (alone : Bool) (job : Job) (on : MachineJob) (m : MachineContent)
+pub record IsCrewsMachine (crew : Workers) (job : Job) (on : MachineJob) (m : MachineContent)
     : Type 0 where
   pub booted : MachineContent
   pub boots : IsBooted on job.events booted
-  pub finishes : Finishes job.seed (workers_of alone job) booted m
+  pub finishes : Finishes job.seed (workers_of crew job) booted m
 
 -- the job's numbers are in their ranges
 pub record IsInRange (job : Job) : Type 0 where

@@ -13,8 +13,8 @@ pub record View : Type 0 where
   pub image : Option Image
 
 -- a report and nothing else
-abbrev pub alone : Text → View
-alone report = record { report = report; log = []; image = None }
+abbrev pub of_report : Text → View
+of_report report = record { report = report; log = []; image = None }
 
 -- a report over an image
 abbrev pub with_image : Text → Image → View

@@ -64,7 +64,7 @@ pub fn answer_to<F: Fn(Global, Machine, u8, u32) -> Result<Machine, AllocError>>
     requires callable { MayCall (F.pre crew.now.finish) }
     requires finishes { CallsFinish (F.post crew.now.finish) }
     requires there { Contains modes job.now.mode }
-    ensures made { IfOk result (IsAnswer crew.now.alone job.now input.now) }
+    ensures made { IfOk result (IsAnswer crew.now.workers job.now input.now) }
     ensures refused { IfErr result
         (IsRefusalOf (questions job.now input.now) job.now input.now) }
 {

@@ -59,35 +59,35 @@ fn form_line(alloc: Global, fault: FormFault) -> Result<Vec<u8>, AllocError>
     ensures { IfOk result (λ line. line.items ≡ form_text fault ++ codes "\n") }
 {
     let mut line = Vec::new(alloc);
-    put_form(alloc, &mut line, fault)?;
+    append_form(alloc, &mut line, fault)?;
     line.extend_from_slice(b"\n")?;
     Ok(line)
 }
 
 // Where an input isn't in form, and how.
-fn put_form(alloc: Global, line: &mut Vec<u8>, fault: FormFault) -> Result<(), AllocError>
+fn append_form(alloc: Global, line: &mut Vec<u8>, fault: FormFault) -> Result<(), AllocError>
     ensures { OnOk result (line.new.items ≡ line.old.items ++ form_text fault) }
 {
     match fault {
-        FormFault::Section { line: at } => put_number(alloc, line, b"section line ", u64::from(at)),
+        FormFault::Section { line: at } => append_number(alloc, line, b"section line ", u64::from(at)),
         FormFault::Line(LineFault { line: at, kind }) => {
-            put_number(alloc, line, b"line ", u64::from(at))?;
-            put_word(line, line_word(kind))
+            append_number(alloc, line, b"line ", u64::from(at))?;
+            append_word(line, line_word(kind))
         }
         FormFault::Event { at } => {
-            put_number(alloc, line, b"event ", u64::from(at))?;
-            put_word(line, b"guard false")?;
+            append_number(alloc, line, b"event ", u64::from(at))?;
+            append_word(line, b"guard false")?;
             Ok(())
         }
         FormFault::Image(ImageFault { at, kind }) => {
-            put_number(alloc, line, b"image at ", u64::from(at))?;
-            put_word(line, image_word(kind))
+            append_number(alloc, line, b"image at ", u64::from(at))?;
+            append_word(line, image_word(kind))
         }
     }
 }
 
 // A word behind a blank.
-fn put_word(line: &mut Vec<u8>, word: &[u8]) -> Result<(), AllocError>
+fn append_word(line: &mut Vec<u8>, word: &[u8]) -> Result<(), AllocError>
     ensures { OnOk result (line.new.items ≡ line.old.items ++ (codes " " ++ word.now)) }
 {
     line.extend_from_slice(b" ")?;
@@ -125,8 +125,8 @@ fn rule_line(alloc: Global, first: &[u8], fault: &CheckFault) -> Result<Vec<u8>,
     ensures { IfOk result (λ line. line.items ≡ first.now ++ (rule_text fault.now ++ codes "\n")) }
 {
     let mut line = Vec::from_slice(alloc, first)?;
-    line.extend_from_slice(word_of(fault))?;
-    put_place(alloc, &mut line, fault)?;
+    line.extend_from_slice(rule_word(fault))?;
+    append_place(alloc, &mut line, fault)?;
     line.extend_from_slice(b"\n")?;
     Ok(line)
 }
@@ -146,7 +146,7 @@ fn kind_word(kind: TextKind) -> &'static [u8]
 }
 
 // The rule that is broken.
-fn word_of(fault: &CheckFault) -> &'static [u8]
+fn rule_word(fault: &CheckFault) -> &'static [u8]
     ensures { result.now ≡ rule_word fault.now }
 {
     match fault {
@@ -170,7 +170,7 @@ fn word_of(fault: &CheckFault) -> &'static [u8]
 }
 
 // Where a rule is broken, and by how much.
-fn put_place(alloc: Global, line: &mut Vec<u8>, fault: &CheckFault) -> Result<(), AllocError>
+fn append_place(alloc: Global, line: &mut Vec<u8>, fault: &CheckFault) -> Result<(), AllocError>
     ensures { OnOk result (line.new.items ≡ line.old.items ++ rule_place fault.now) }
 {
     match fault {
@@ -178,30 +178,30 @@ fn put_place(alloc: Global, line: &mut Vec<u8>, fault: &CheckFault) -> Result<()
         CheckFault::DuplicateFunction { function }
         | CheckFault::EntryShape { function }
         | CheckFault::BadIo { function }
-        | CheckFault::Recursion { function } => put_function(line, function),
+        | CheckFault::Recursion { function } => append_function(line, function),
         CheckFault::DuplicateName { function, name }
         | CheckFault::UnknownFunction { function, name }
         | CheckFault::WrongArity { function, name }
-        | CheckFault::DuplicateTarget { function, name } => put_names(line, function, name),
+        | CheckFault::DuplicateTarget { function, name } => append_names(line, function, name),
         CheckFault::TooManyParams { function, count } => {
-            put_function(line, function)?;
-            put_number(alloc, line, b" count ", *count)
+            append_function(line, function)?;
+            append_number(alloc, line, b" count ", *count)
         }
         CheckFault::BadAllocSize { function, bytes } => {
-            put_function(line, function)?;
-            put_number(alloc, line, b" bytes ", u64::from(*bytes))
+            append_function(line, function)?;
+            append_number(alloc, line, b" bytes ", u64::from(*bytes))
         }
         CheckFault::FrameNeed { function, bytes } => {
-            put_function(line, function)?;
-            put_number(alloc, line, b" bytes ", *bytes)
+            append_function(line, function)?;
+            append_number(alloc, line, b" bytes ", *bytes)
         }
-        CheckFault::TooManyFunctions { count } => put_number(alloc, line, b" count ", *count),
-        CheckFault::CodeNeed { words } => put_number(alloc, line, b" words ", *words),
-        CheckFault::StackNeed { bytes } => put_number(alloc, line, b" bytes ", *bytes),
+        CheckFault::TooManyFunctions { count } => append_number(alloc, line, b" count ", *count),
+        CheckFault::CodeNeed { words } => append_number(alloc, line, b" words ", *words),
+        CheckFault::StackNeed { bytes } => append_number(alloc, line, b" bytes ", *bytes),
     }
 }
 
-fn put_function(line: &mut Vec<u8>, function: &Name) -> Result<(), AllocError>
+fn append_function(line: &mut Vec<u8>, function: &Name) -> Result<(), AllocError>
     ensures { OnOk result (line.new.items ≡ line.old.items ++ function_part function.now) }
 {
     line.extend_from_slice(b" function ")?;
@@ -209,17 +209,17 @@ fn put_function(line: &mut Vec<u8>, function: &Name) -> Result<(), AllocError>
     Ok(())
 }
 
-fn put_names(line: &mut Vec<u8>, function: &Name, name: &Name) -> Result<(), AllocError>
+fn append_names(line: &mut Vec<u8>, function: &Name, name: &Name) -> Result<(), AllocError>
     ensures { OnOk result (line.new.items
         ≡ line.old.items ++ (function_part function.now ++ name_part name.now)) }
 {
-    put_function(line, function)?;
+    append_function(line, function)?;
     line.extend_from_slice(b" name ")?;
     line.extend_from_slice(name.as_bytes())?;
     Ok(())
 }
 
-fn put_number(
+fn append_number(
     alloc: Global,
     line: &mut Vec<u8>,
     label: &[u8],

@@ -37,7 +37,7 @@ pub fn run_mode<F: Fn(Global, Machine, u8, u32) -> Result<Machine, AllocError>>(
     requires range { IsInRange job.now }
     requires callable { MayCall (F.pre crew.now.finish) }
     requires finishes { CallsFinish (F.post crew.now.finish) }
-    ensures made { IfOk result (IsCrewAnswer crew.now.alone mode.Run job.now input.now) }
+    ensures made { IfOk result (IsCrewAnswer crew.now.workers mode.Run job.now input.now) }
     ensures refused { IfErr result (IsModeRefusal mode.Run job.now input.now) }
 {
     let (program, frames, _) = open_framed(alloc, input, 2)?;
@@ -58,7 +58,7 @@ pub fn lamp_mode<F: Fn(Global, Machine, u8, u32) -> Result<Machine, AllocError>>
     requires range { IsInRange job.now }
     requires callable { MayCall (F.pre crew.now.finish) }
     requires finishes { CallsFinish (F.post crew.now.finish) }
-    ensures made { IfOk result (IsCrewAnswer crew.now.alone mode.Lamp job.now input.now) }
+    ensures made { IfOk result (IsCrewAnswer crew.now.workers mode.Lamp job.now input.now) }
     ensures refused { IfErr result (IsModeRefusal mode.Lamp job.now input.now) }
 {
     let list = cut(alloc, input, 1)?;
@@ -101,11 +101,11 @@ fn finished<F: Fn(Global, Machine, u8, u32) -> Result<Machine, AllocError>>(
     requires finishes { CallsFinish (F.post crew.now.finish) }
     requires image { IsImage image.now }
     requires frames { IsScript frames.items }
-    ensures { IfOk result (IsCrewsMachine crew.now.alone job.now (job_on image.now frames.items)) }
+    ensures { IfOk result (IsCrewsMachine crew.now.workers job.now (job_on image.now frames.items)) }
 {
     let code = image.code.as_slice();
     let machine = Machine::boot(alloc, code, image.entry, frames, job.events)?;
-    (crew.finish)(alloc, machine, workers_of(crew.alone, job), job.seed)
+    (crew.finish)(alloc, machine, workers_of(crew.workers, job), job.seed)
 }
 
 // The machine with the image and these frames after a log.

@@ -28,7 +28,7 @@ pub fn check_mode(alloc: Global, job: &Job, input: &[u8]) -> Result<Shown, Refus
 {
     let (program, _) = open_checked(alloc, input, 1)?;
     let report = check_report(alloc, &program)?;
-    Ok(Shown::alone(alloc, report))
+    Ok(Shown::of_report(alloc, report))
 }
 
 /// Prints the source, and checks nothing but its grammar.
@@ -39,7 +39,7 @@ pub fn print_mode(alloc: Global, job: &Job, input: &[u8]) -> Result<Shown, Refus
 {
     let (program, _) = open_read(alloc, input, 1)?;
     let report = print_program(alloc, &program)?;
-    Ok(Shown::alone(alloc, report))
+    Ok(Shown::of_report(alloc, report))
 }
 
 /// Lists an image, or the image of the source's program.
@@ -65,7 +65,7 @@ fn list_image(alloc: Global, job: &Job, input: &[u8]) -> Result<Shown, Refused>
     match from_bytes(alloc, input) {
         Ok(image) => {
             let report = list_report(alloc, &image)?;
-            Ok(Shown::alone(alloc, report))
+            Ok(Shown::of_report(alloc, report))
         }
         Err(error) => Err(Refused::without_image(image_fault(error))),
     }
@@ -80,7 +80,7 @@ pub fn judge_mode(alloc: Global, job: &Job, input: &[u8]) -> Result<Shown, Refus
     let list = cut(alloc, input, 1)?;
     let events = events_of(alloc, &section_at(&list, 0))?;
     let report = verdict_line(alloc, judge(&events))?;
-    Ok(Shown::alone(alloc, report))
+    Ok(Shown::of_report(alloc, report))
 }
 
 // The fault of bytes that are no image's.

@@ -24,11 +24,11 @@ impl Model for Shown {
 
 impl Shown {
     ghost use Rattle.std.specs.Prelude.{◌≡◌};
-    ghost use Rattle.lb_system.specs.Views.{alone, with_image, with_log};
+    ghost use Rattle.lb_system.specs.Views.{of_report, with_image, with_log};
 
     /// A report and nothing else.
-    pub fn alone(alloc: Global, report: Vec<u8>) -> Shown
-        ensures { result ≡ alone report.items }
+    pub fn of_report(alloc: Global, report: Vec<u8>) -> Shown
+        ensures { result ≡ of_report report.items }
     {
         Shown {
             report,

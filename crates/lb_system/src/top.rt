@@ -4,6 +4,7 @@ ghost use Rattle.lb_ports.specs.Bytes.{ReadsUpTo, ReadsMoreThan};
 ghost use Rattle.lb_crew.specs.Crews.{CallsFinish, Finishes, MayCall};
 ghost use Rattle.lb_words.specs.declared.job.Job.{Job as Asked};
 ghost use Rattle.lb_words.specs.declared.job.Mode.TheVariants as mode;
+ghost use Rattle.lb_system.specs.declared.crew.Workers.TheVariants as workers;
 ghost use Rattle.lb_system.specs.Request.{IsRequest};
 ghost use Rattle.lb_system.specs.Faults.{fault_line, status_of};
 ghost use Rattle.lb_system.specs.Views.{shown_by};
@@ -14,7 +15,7 @@ ghost use Rattle.lb_system.specs.Headline.{RunsItsImage, RunsItsMachine, RunsMac
 ghost use Rattle.lb_system.specs.InternalAnswers.{IsReason, IsTold};
 
 use crate::answer::{Refused, answer_to};
-use crate::crew::Crew;
+use crate::crew::{Crew, Workers};
 use crate::fault::Fault;
 use crate::line::{fixed_line, told_line};
 use crate::request::{has_input, request_of};
@@ -55,7 +56,7 @@ pub fn plain<I: Source, O: Sink>(
     input: &mut I,
     output: &mut O,
 ) -> Ended
-    ensures rightly { EndsRightly true (map string_bytes words.now)
+    ensures rightly { EndsRightly workers.Alone (map string_bytes words.now)
         (port I.left I.faults input.old input.new)
         (port O.held O.faults output.old output.new) result }
     ensures unread { ¬ (AskForInput (map string_bytes words.now)) → input.new ≡ input.old }
@@ -65,11 +66,11 @@ pub fn plain<I: Source, O: Sink>(
         (port O.held O.faults output.old output.new) result }
     ensures machine { (job : Asked) → IsRequest (map string_bytes words.now) job
         → RunsMachine job.mode → HasReport result.fault
-        → RunsItsMachine true job (port I.left I.faults input.old input.new)
+        → RunsItsMachine workers.Alone job (port I.left I.faults input.old input.new)
         (port O.held O.faults output.old output.new) result }
     ensures lamp { (job : Asked) → IsRequest (map string_bytes words.now) job
         → job.mode ≡ mode.Lamp → HasReport result.fault
-        → RunsTheLamp true job (port I.left I.faults input.old input.new)
+        → RunsTheLamp workers.Alone job (port I.left I.faults input.old input.new)
         (port O.held O.faults output.old output.new) result }
 {
     let finish = |_: Global, machine: Machine, workers: u8, seed: u32|
@@ -78,7 +79,7 @@ pub fn plain<I: Source, O: Sink>(
     { Ok(serial(machine, seed)) };
     let crew = Crew {
         finish,
-        alone: true,
+        workers: Workers::Alone,
     };
     call(alloc, &crew, words, input, output)
 }
@@ -94,7 +95,7 @@ pub fn bulb<R: Threads + Wait + Sync, I: Source, O: Sink, G: Gate + Sync>(
     output: &mut O,
     gate: &G,
 ) -> Ended
-    ensures rightly { EndsRightly false (map string_bytes words.now)
+    ensures rightly { EndsRightly workers.AsAsked (map string_bytes words.now)
         (port I.left I.faults input.old input.new)
         (port O.held O.faults output.old output.new) result }
     ensures unread { ¬ (AskForInput (map string_bytes words.now)) → input.new ≡ input.old }
@@ -104,11 +105,11 @@ pub fn bulb<R: Threads + Wait + Sync, I: Source, O: Sink, G: Gate + Sync>(
         (port O.held O.faults output.old output.new) result }
     ensures machine { (job : Asked) → IsRequest (map string_bytes words.now) job
         → RunsMachine job.mode → HasReport result.fault
-        → RunsItsMachine false job (port I.left I.faults input.old input.new)
+        → RunsItsMachine workers.AsAsked job (port I.left I.faults input.old input.new)
         (port O.held O.faults output.old output.new) result }
     ensures lamp { (job : Asked) → IsRequest (map string_bytes words.now) job
         → job.mode ≡ mode.Lamp → HasReport result.fault
-        → RunsTheLamp false job (port I.left I.faults input.old input.new)
+        → RunsTheLamp workers.AsAsked job (port I.left I.faults input.old input.new)
         (port O.held O.faults output.old output.new) result }
 {
     let finish = |alloc: Global, machine: Machine, workers: u8, seed: u32|
@@ -117,7 +118,7 @@ pub fn bulb<R: Threads + Wait + Sync, I: Source, O: Sink, G: Gate + Sync>(
     { race(rt, alloc, machine, workers, seed, gate) };
     let crew = Crew {
         finish,
-        alone: false,
+        workers: Workers::AsAsked,
     };
     call(alloc, &crew, words, input, output)
 }
@@ -132,7 +133,7 @@ fn call<F: Fn(Global, Machine, u8, u32) -> Result<Machine, AllocError>, I: Sourc
 ) -> Ended
     requires callable { MayCall (F.pre crew.now.finish) }
     requires finishes { CallsFinish (F.post crew.now.finish) }
-    ensures rightly { EndsRightly crew.now.alone (map string_bytes words.now)
+    ensures rightly { EndsRightly crew.now.workers (map string_bytes words.now)
         (port I.left I.faults input.old input.new)
         (port O.held O.faults output.old output.new) result }
     ensures unread { ¬ (AskForInput (map string_bytes words.now)) → input.new ≡ input.old }
@@ -142,11 +143,11 @@ fn call<F: Fn(Global, Machine, u8, u32) -> Result<Machine, AllocError>, I: Sourc
         (port O.held O.faults output.old output.new) result }
     ensures machine { (job : Asked) → IsRequest (map string_bytes words.now) job
         → RunsMachine job.mode → HasReport result.fault
-        → RunsItsMachine crew.now.alone job (port I.left I.faults input.old input.new)
+        → RunsItsMachine crew.now.workers job (port I.left I.faults input.old input.new)
         (port O.held O.faults output.old output.new) result }
     ensures lamp { (job : Asked) → IsRequest (map string_bytes words.now) job
         → job.mode ≡ mode.Lamp → HasReport result.fault
-        → RunsTheLamp crew.now.alone job (port I.left I.faults input.old input.new)
+        → RunsTheLamp crew.now.workers job (port I.left I.faults input.old input.new)
         (port O.held O.faults output.old output.new) result }
 {
     // What holds of every legal log, whoever made it.
@@ -246,7 +247,7 @@ fn prepare<F: Fn(Global, Machine, u8, u32) -> Result<Machine, AllocError>, I: So
 ) -> Result<Shown, Refused>
     requires callable { MayCall (F.pre crew.now.finish) }
     requires finishes { CallsFinish (F.post crew.now.finish) }
-    ensures made { IfOk result (IsReport crew.now.alone (map string_bytes words.now)
+    ensures made { IfOk result (IsReport crew.now.workers (map string_bytes words.now)
         (port I.left I.faults input.old input.new)) }
     ensures reason { IfErr result (λ r. IsReason (map string_bytes words.now)
         (port I.left I.faults input.old input.new) r.fault r.image) }

@@ -38,7 +38,7 @@ finished-requires-clause-frames g c =
 
 pub lamp_report-requires : goal.lamp_report-requires
 lamp_report-requires g c =
-    crews_begins c.lamp_keeps.ensures.lamp c.args.crew.now.alone c.args.job.now c.in_ok-image.image c.in_ok-frames.frames.items c.in_ok-machine.machine c.in_ok-image.ensures.compiled c.in_ok-machine.ensures
+    crews_begins c.lamp_keeps.ensures.lamp c.args.crew.now.workers c.args.job.now c.in_ok-image.image c.in_ok-frames.frames.items c.in_ok-machine.machine c.in_ok-image.ensures.compiled c.in_ok-machine.ensures
 
 pub returns-clause-made : goal.returns-clause-made
 returns-clause-made g c =
@@ -46,5 +46,5 @@ returns-clause-made g c =
     let same : seen c.section_at.result ≡ section 0 c.args.input.now = c.section_at.ensures ∙ ap (part_at 0) list in
     let said = subst (λ s. SaysFrames s c.in_ok-frames.frames.items) same c.in_ok-frames.ensures.read in
     let shown = c.with_log.ensures ∙ ap (λ log. with_log c.in_ok-report.report.items log c.in_ok-image.image) c.into_parts.ensures.log in
-    lamp_made c.args.crew.now.alone c.args.job.now c.args.input.now c.in_ok-frames.frames.items c.in_ok-image.image c.in_ok-machine.machine c.in_ok-report.report.items c.with_log.result
+    lamp_made c.args.crew.now.workers c.args.job.now c.args.input.now c.in_ok-frames.frames.items c.in_ok-image.image c.in_ok-machine.machine c.in_ok-report.report.items c.with_log.result
     c.in_ok-list.ensures.few said c.in_ok-image.ensures.compiled c.in_ok-machine.ensures c.in_ok-report.ensures shown

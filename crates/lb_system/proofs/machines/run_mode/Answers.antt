@@ -18,5 +18,5 @@ finished-requires-clause-frames g c = said_script (section 1 c.args.input.now) c
 pub returns-clause-made : goal.returns-clause-made
 returns-clause-made g c =
     let shown = c.with_log.ensures ∙ ap (λ log. with_log c.in_ok-report.report.items log c.in_ok-image.image) c.into_parts.ensures.log in
-    run_made c.args.crew.now.alone c.args.job.now c.args.input.now (program_of c.in_ok-program.program) c.in_ok-program.frames.items c.in_ok-image.image c.in_ok-machine.machine c.in_ok-report.report.items
+    run_made c.args.crew.now.workers c.args.job.now c.args.input.now (program_of c.in_ok-program.program) c.in_ok-program.frames.items c.in_ok-image.image c.in_ok-machine.machine c.in_ok-report.report.items
     c.with_log.result c.in_ok-program.ensures.opened c.in_ok-program.ensures.frames c.in_ok-image.ensures c.in_ok-machine.ensures c.in_ok-report.ensures shown

@@ -11,4 +11,4 @@ returns-in_err-program-clause-refused c =
 
 pub returns-clause-made : goal.returns-clause-made
 returns-clause-made c =
-    check_made c.args.job.now c.args.input.now (program_of c.in_ok-program.program) c.in_ok-report.report.items c.alone.result c.in_ok-program.ensures.opened c.in_ok-report.ensures c.alone.ensures
+    check_made c.args.job.now c.args.input.now (program_of c.in_ok-program.program) c.in_ok-report.report.items c.of_report.result c.in_ok-program.ensures.opened c.in_ok-report.ensures c.of_report.ensures

@@ -35,5 +35,5 @@ returns-clause-made c =
     let said = subst (λ s. SaysEvents s c.in_ok-events.events.items) same c.in_ok-events.ensures.read in
     let it : IsVerdict c.deref-2.result.now c.judge.result = record { prefix = c.judge.ensures.prefix; rounds = c.judge.ensures.rounds; place = c.judge.ensures.place } in
     let verdict = subst (λ events. IsVerdict events c.judge.result) c.deref-2.ensures.value it in
-    judge_made c.args.job.now c.args.input.now c.in_ok-events.events.items c.judge.result c.in_ok-report.report.items c.alone.result c.in_ok-list.ensures.few said verdict
-    c.in_ok-report.ensures c.alone.ensures
+    judge_made c.args.job.now c.args.input.now c.in_ok-events.events.items c.judge.result c.in_ok-report.report.items c.of_report.result c.in_ok-list.ensures.few said verdict
+    c.in_ok-report.ensures c.of_report.ensures

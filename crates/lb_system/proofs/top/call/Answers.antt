@@ -16,8 +16,8 @@ returns-in-Ok-clause-rightly g c =
     let source = port g.I.Source.left g.I.Source.faults c.args.input.now c.prepare.new.input in
     let sink = port g.O.Sink.held g.O.Sink.faults c.args.output.now c.write_report.new.output in
     let it = shown_by c.write_report.result c.in-Ok.shown.report in
-    let made : IsReport c.args.crew.now.alone words source it = subst (IsReport c.args.crew.now.alone words source) (sym c.write_report.ensures.shown) c.in-Ok.ensures.made in
-    report_rightly c.args.crew.now.alone words source sink c.write_report.result c.in-Ok.shown.report c.write_report.ensures.status made c.write_report.ensures.report c.in-Ok.ensures.steady
+    let made : IsReport c.args.crew.now.workers words source it = subst (IsReport c.args.crew.now.workers words source) (sym c.write_report.ensures.shown) c.in-Ok.ensures.made in
+    report_rightly c.args.crew.now.workers words source sink c.write_report.result c.in-Ok.shown.report c.write_report.ensures.status made c.write_report.ensures.report c.in-Ok.ensures.steady
     c.prepare.ensures.source c.write_report.ensures.sink
 
 pub returns-in-Ok-clause-isa : goal.returns-in-Ok-clause-isa
@@ -26,8 +26,8 @@ returns-in-Ok-clause-isa g c = λ job asked is h.
     let source = port g.I.Source.left g.I.Source.faults c.args.input.now c.prepare.new.input in
     let sink = port g.O.Sink.held g.O.Sink.faults c.args.output.now c.write_report.new.output in
     let it = shown_by c.write_report.result c.in-Ok.shown.report in
-    let made : IsReport c.args.crew.now.alone words source it = subst (IsReport c.args.crew.now.alone words source) (sym c.write_report.ensures.shown) c.in-Ok.ensures.made in
-    report_runs_image c.args.crew.now.alone words source sink job c.write_report.result c.in-Ok.shown.report made c.write_report.ensures.report asked is
+    let made : IsReport c.args.crew.now.workers words source it = subst (IsReport c.args.crew.now.workers words source) (sym c.write_report.ensures.shown) c.in-Ok.ensures.made in
+    report_runs_image c.args.crew.now.workers words source sink job c.write_report.result c.in-Ok.shown.report made c.write_report.ensures.report asked is
 
 pub returns-in-Ok-clause-machine : goal.returns-in-Ok-clause-machine
 returns-in-Ok-clause-machine g c = λ job asked is h.
@@ -35,8 +35,8 @@ returns-in-Ok-clause-machine g c = λ job asked is h.
     let source = port g.I.Source.left g.I.Source.faults c.args.input.now c.prepare.new.input in
     let sink = port g.O.Sink.held g.O.Sink.faults c.args.output.now c.write_report.new.output in
     let it = shown_by c.write_report.result c.in-Ok.shown.report in
-    let made : IsReport c.args.crew.now.alone words source it = subst (IsReport c.args.crew.now.alone words source) (sym c.write_report.ensures.shown) c.in-Ok.ensures.made in
-    report_runs_machine c.machines_keep.ensures.machines c.args.crew.now.alone words source sink job c.write_report.result c.in-Ok.shown.report made c.write_report.ensures.report asked is
+    let made : IsReport c.args.crew.now.workers words source it = subst (IsReport c.args.crew.now.workers words source) (sym c.write_report.ensures.shown) c.in-Ok.ensures.made in
+    report_runs_machine c.machines_keep.ensures.machines c.args.crew.now.workers words source sink job c.write_report.result c.in-Ok.shown.report made c.write_report.ensures.report asked is
 
 pub returns-in-Ok-clause-lamp : goal.returns-in-Ok-clause-lamp
 returns-in-Ok-clause-lamp g c = λ job asked is h.
@@ -44,8 +44,8 @@ returns-in-Ok-clause-lamp g c = λ job asked is h.
     let source = port g.I.Source.left g.I.Source.faults c.args.input.now c.prepare.new.input in
     let sink = port g.O.Sink.held g.O.Sink.faults c.args.output.now c.write_report.new.output in
     let it = shown_by c.write_report.result c.in-Ok.shown.report in
-    let made : IsReport c.args.crew.now.alone words source it = subst (IsReport c.args.crew.now.alone words source) (sym c.write_report.ensures.shown) c.in-Ok.ensures.made in
-    report_runs_lamp c.machines_keep.ensures.machines c.lamp_keeps.ensures.lamp c.args.crew.now.alone words source sink job c.write_report.result c.in-Ok.shown.report made
+    let made : IsReport c.args.crew.now.workers words source it = subst (IsReport c.args.crew.now.workers words source) (sym c.write_report.ensures.shown) c.in-Ok.ensures.made in
+    report_runs_lamp c.machines_keep.ensures.machines c.lamp_keeps.ensures.lamp c.args.crew.now.workers words source sink job c.write_report.result c.in-Ok.shown.report made
     c.write_report.ensures.report asked is
 
 -- ---- there is none
@@ -55,7 +55,7 @@ returns-in-Err-clause-rightly g c =
     let words = map string_bytes c.args.words.now in
     let source = port g.I.Source.left g.I.Source.faults c.args.input.now c.prepare.new.input in
     let sink = port g.O.Sink.held g.O.Sink.faults c.args.output.now c.refuse.new.output in
-    refusal_rightly c.args.crew.now.alone words source sink c.in-Err.refused c.refuse.result c.refuse.ensures.status c.in-Err.ensures.reason c.refuse.ensures.told c.refuse.ensures.line
+    refusal_rightly c.args.crew.now.workers words source sink c.in-Err.refused c.refuse.result c.refuse.ensures.status c.in-Err.ensures.reason c.refuse.ensures.told c.refuse.ensures.line
     c.refuse.ensures.log c.in-Err.ensures.stays c.prepare.ensures.source c.refuse.ensures.sink
 
 pub returns-in-Err-clause-isa : goal.returns-in-Err-clause-isa
