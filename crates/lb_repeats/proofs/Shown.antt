@@ -25,7 +25,7 @@ use Rattle.lb_system.specs.declared.large.Counts.{Counts}
 use Rattle.lb_system.specs.Report.{check_report, list_report}
 use Rattle.lb_system.specs.RunReport.{interp_report, isa_report}
 use Rattle.lb_system.specs.MachineReport.{IsLampReport, IsVerdict, IsLogPart, IsMachineReport, IsReportOf, counts_text, ending_lines, rounds_text, verdict_text}
-use Rattle.lb_system.specs.LargeReport.{AreCounts, IsCoreCount, ShowsLarge, large_report, most_counted, seed_program, source_run, bare_job}
+use Rattle.lb_system.specs.LargeReport.{AreCounts, IsCoreCount, ShowsLarge, large_report, most_counted, seed_program, source_run}
 use Rattle.lb_system.specs.Views.{View, of_report, with_image}
 use Rattle.lb_system.specs.Questions.{OfProgram, is_image}
 use Rattle.lb_system.specs.Answers.{CrewShows, IsCheckReport, IsCrewsLog, IsReadLog, Shows, ShowsImage, ShowsLamp, ShowsListing, ShowsMachine, ShowsNeeds, ShowsReplied, ShowsRun, ShowsText, ShowsVerdict}
@@ -124,7 +124,7 @@ one_lamp_report laws job on log x y a b =
 
 one_made_log : (job : Job) (on : MachineJob) (x y : List Entry) → IsCrewsLog workers.Alone job on x → IsCrewsLog workers.Alone job on y → x ≡ y
 one_made_log job on x y a b =
-    a.made ∙ one_crew_log job.seed job.events on a.booted a.ended b.booted b.ended a.boots b.boots a.finishes b.finishes ∙ sym b.made
+    a.made ∙ one_crew_log job.seed job.events on a.crews.booted a.ended b.crews.booted b.ended a.crews.boots b.crews.boots a.crews.finishes b.crews.finishes ∙ sym b.made
 
 one_read_log : Laws → (input : Text) (on : MachineJob) (x y : List Entry) → IsReadLog input on x → IsReadLog input on y → x ≡ y
 one_read_log laws input on x y a b =
@@ -155,7 +155,7 @@ one_core seed i m n a b =
     let other : MachineContent = b.0 in
     let second : MachineContent = b.1 in
     a.3 ∙ ap (λ (t : List Event). length t)
-    (one_trace_until most_counted seed most_entries (bare_job i) booted fired other second a.2.boot b.2.boot a.2.fixed b.2.fixed a.2.drawn b.2.drawn a.2.replay b.2.replay)
+    (one_trace_until most_counted seed most_entries (job_on i []) booted fired other second a.2.boot b.2.boot a.2.fixed b.2.fixed a.2.drawn b.2.drawn a.2.replay b.2.replay)
     ∙ sym b.3
 
 one_counts : Laws → (seed : ℕ) (i : Image) (c d : Counts) → AreCounts seed i c → AreCounts seed i d → c ≡ d

@@ -30,11 +30,11 @@ use Rattle.lb_system.specs.declared.crew.Workers.{Workers}
 -- ---- the log of a crew
 
 crews_fixed : (crew : Workers) (job : Job) (on : MachineJob) (log : List Entry) → (c : IsCrewsLog crew job on log) → c.ended.fixed ≡ record { job = on; max_events = job.events }
-crews_fixed crew job on log c = c.finishes.fixed ∙ c.boots.0
+crews_fixed crew job on log c = c.crews.finishes.fixed ∙ c.crews.boots.0
 
 crews_legal : (crew : Workers) (job : Job) (on : MachineJob) (log : List Entry) → IsCrewsLog crew job on log → IsLegal on log
 crews_legal crew job on log c =
-    subst (IsLegal on) (sym c.made) (subst (λ (f : FixedContent). IsLegal f.job c.ended.log) (crews_fixed crew job on log c) c.finishes.replay.legal)
+    subst (IsLegal on) (sym c.made) (subst (λ (f : FixedContent). IsLegal f.job c.ended.log) (crews_fixed crew job on log c) c.crews.finishes.replay.legal)
 
 -- where the machine has ended
 ended_so : (job : Job) (on : MachineJob) (log : List Entry) (m : MachineContent) → m.fixed ≡ record { job = on; max_events = job.events } → log ≡ m.log → HasEnded m
@@ -53,10 +53,10 @@ ended_so job on log m fixed made ended =
 
 crews_full : (crew : Workers) (job : Job) (on : MachineJob) (log : List Entry) → IsCrewsLog crew job on log → IsFullLog crew job on log
 crews_full crew job on log c =
-    let added : log ≡ c.finishes.added = c.made ∙ c.finishes.begins ∙ ap (λ l. l ++ c.finishes.added) c.boots.1 in
+    let added : log ≡ c.crews.finishes.added = c.made ∙ c.crews.finishes.begins ∙ ap (λ l. l ++ c.crews.finishes.added) c.crews.boots.1 in
     record {
-      ended = ended_so job on log c.ended (crews_fixed crew job on log c) c.made c.finishes.ended;
-      workers = subst (All (λ e. e.worker < workers_of crew job)) (sym added) c.finishes.workers_below;
+      ended = ended_so job on log c.ended (crews_fixed crew job on log c) c.made c.crews.finishes.ended;
+      workers = subst (All (λ e. e.worker < workers_of crew job)) (sym added) c.crews.finishes.workers_below;
     }
 
 -- ---- any program

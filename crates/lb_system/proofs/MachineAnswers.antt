@@ -27,8 +27,8 @@ use Rattle.lb_system.specs.declared.fault.FormFault.TheVariants as form
 use Rattle.lb_system.specs.MachineReport.{IsLampReport, IsMachineReport}
 use Rattle.lb_system.specs.Views.{View, with_log}
 use Rattle.lb_system.specs.Questions.{Case, Sections, InForm, Frames, Entries, Legal, Holds, IsReplayed, SaysFrames, SaysLog, AllHold, checked, logged}
-use Rattle.lb_system.specs.Answers.{IsCrewsLog}
-use Rattle.lb_system.specs.InternalAnswers.{IsCrewAnswer, IsCrewsMachine, IsModeAnswer, IsOpened, IsRefusalOf, RefusesLog, case_of, refused_log}
+use Rattle.lb_system.specs.Answers.{IsCrewsLog, IsCrewsMachine}
+use Rattle.lb_system.specs.InternalAnswers.{IsCrewAnswer, IsModeAnswer, IsOpened, IsRefusalOf, RefusesLog, case_of, refused_log}
 use Rattle.lb_system.proofs.QuestionLemmas.{first_behind}
 use Rattle.lb_system.proofs.AskLemmas.{of_all}
 use Rattle.lb_system.proofs.MachineReports.{replayed_trace}
@@ -39,7 +39,7 @@ crews_job : (crew : Workers) (job : Job) (on : MachineJob) (m : MachineContent) 
 crews_job crew job on m c = ap (λ f. f.job) (c.finishes.fixed ∙ c.boots.0)
 
 crews_log : (crew : Workers) (job : Job) (on : MachineJob) (m : MachineContent) → IsCrewsMachine crew job on m → IsCrewsLog crew job on m.log
-crews_log crew job on m c = record { booted = c.booted; ended = m; boots = c.boots; finishes = c.finishes; made = refl }
+crews_log crew job on m c = record { ended = m; crews = c; made = refl }
 
 -- the trace of the lamp's machine
 pub crews_begins : LampKeeps → (crew : Workers) (job : Job) (i : Image) (frames : List FrameContent) (m : MachineContent) → IsCompiled supplied i → IsCrewsMachine crew job (job_on i frames) m

@@ -80,12 +80,17 @@ workers_of workers.AsAsked job = job.workers
 
 -- a crew went on from boot, with a log of at most as many entries as the job has events, until the log
 -- was full or the core halted
-pub record IsCrewsLog (crew : Workers) (job : Job) (on : MachineJob) (log : List Entry)
+pub record IsCrewsMachine (crew : Workers) (job : Job) (on : MachineJob) (m : MachineContent)
     : Type 0 where
   pub booted : MachineContent
-  pub ended : MachineContent
   pub boots : IsBooted on job.events booted
-  pub finishes : Finishes job.seed (workers_of crew job) booted ended
+  pub finishes : Finishes job.seed (workers_of crew job) booted m
+
+-- the log of such a machine
+pub record IsCrewsLog (crew : Workers) (job : Job) (on : MachineJob) (log : List Entry)
+    : Type 0 where
+  pub ended : MachineContent
+  pub crews : IsCrewsMachine crew job on ended
   pub made : log ≡ ended.log
 
 -- the log is legal, and the third section says it

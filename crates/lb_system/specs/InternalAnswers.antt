@@ -14,8 +14,6 @@ use Rattle.lb_lines.specs.declared.fault.LineError.TheVariants as line
 use Rattle.lb_trace.specs.declared.Entry.{Entry}
 use Rattle.lb_machine.specs.State.{Job as MachineJob}
 use Rattle.lb_machine.specs.Logs.{IsFirstRefused, most_entries}
-use Rattle.lb_machine.specs.Machines.{MachineContent, IsBooted}
-use Rattle.lb_crew.specs.Crews.{Finishes}
 use Rattle.lb_sections.specs.Sections.{Part, sections}
 use Rattle.lb_sections.specs.declared.cut.SectionsError.{SectionsError}
 use Rattle.lb_sections.specs.declared.cut.SectionsError.TheVariants as cut
@@ -29,7 +27,7 @@ use Rattle.lb_system.specs.Request.{AreInForm}
 use Rattle.lb_system.specs.Faults.{IsLimit, TakesMemory}
 use Rattle.lb_system.specs.Views.{View}
 use Rattle.lb_system.specs.Questions.{Case, Question, Lines, HasLines, IsLineFault, questions, mode_questions, source, AllHold, IsCauseOf, BreaksRule, BreaksLimit}
-use Rattle.lb_system.specs.Answers.{Port, CrewShows, Shows, ModeShows, workers_of, AskForInput, ReadFails, IsOfInput, HasCause, FitsImage, most_input}
+use Rattle.lb_system.specs.Answers.{Port, CrewShows, Shows, ModeShows, AskForInput, ReadFails, IsOfInput, HasCause, FitsImage, most_input}
 use Rattle.lb_system.specs.declared.crew.Workers.{Workers}
 
 -- the job's case, with this image
@@ -118,13 +116,6 @@ RefusesLog on log _ = ⊥
 abbrev pub refused_log : Fault → Image → Refused
 refused_log fault.Memory i = without_image fault.Memory
 refused_log f i = record { fault = f; image = Some i }
-
--- the machine is that of the job, and a crew went on from boot until it ended
-pub record IsCrewsMachine (crew : Workers) (job : Job) (on : MachineJob) (m : MachineContent)
-    : Type 0 where
-  pub booted : MachineContent
-  pub boots : IsBooted on job.events booted
-  pub finishes : Finishes job.seed (workers_of crew job) booted m
 
 -- the job's numbers are in their ranges
 pub record IsInRange (job : Job) : Type 0 where

@@ -11,11 +11,11 @@ use Rattle.lb_source.specs.Source.{src}
 use Rattle.lb_source.specs.declared.ends.SourceRun.{SourceRun}
 use Rattle.lb_image.specs.declared.image.Image.{Image}
 use Rattle.lb_isa.specs.Runs.{isa}
-use Rattle.lb_machine.specs.State.{Job as MachineJob, job_of}
 use Rattle.lb_machine.specs.Logs.{most_entries}
 use Rattle.lb_machine.specs.Machines.{MachineContent, IsBooted, IsReplay}
 use Rattle.lb_crew.specs.Drawn.{IsDrawnUntil}
 use Rattle.lb_correctness.specs.Images.{IsCompiled}
+use Rattle.lb_correctness.specs.Machines.{job_on}
 use Rattle.lb_words.specs.declared.job.Job.{Job}
 use Rattle.lb_system.specs.declared.large.Counts.{Counts}
 use Rattle.lb_system.specs.RunReport.{trace_part}
@@ -47,14 +47,10 @@ source_run seed i = src (seed_program seed) i.layout large_fuel []
 abbrev pub code_trace : Image → ℕ → List Event
 code_trace i n = (isa i.code i.entry [] n).trace
 
--- the job of a machine with the image's code
-abbrev pub bare_job : Image → MachineJob
-bare_job i = job_of i.code i.entry []
-
 -- the machine was booted with the image's code, and worker 0 alone fired it, by the draws of the seed,
 -- until there were so many events, its log was full or its core was halted
 pub record IsFired (seed : ℕ) (i : Image) (booted fired : MachineContent) : Type 0 where
-  pub boot : IsBooted (bare_job i) most_entries booted
+  pub boot : IsBooted (job_on i []) most_entries booted
   pub fixed : fired.fixed ≡ booted.fixed
   pub drawn : IsDrawnUntil most_counted seed booted fired
   pub replay : IsReplay fired

@@ -8,8 +8,8 @@ ghost use Rattle.lb_machine.specs.Machines.{IsReplayOf};
 ghost use Rattle.lb_crew.specs.Crews.{CallsFinish, MayCall};
 ghost use Rattle.lb_correctness.specs.Machines.{job_on};
 ghost use Rattle.lb_words.specs.declared.job.Mode.TheVariants as mode;
-ghost use Rattle.lb_system.specs.Answers.{most_input};
-ghost use Rattle.lb_system.specs.InternalAnswers.{IsCrewAnswer, IsCrewsMachine, IsInRange, IsModeAnswer, IsModeRefusal, RefusesLog, refused_log};
+ghost use Rattle.lb_system.specs.Answers.{IsCrewsMachine, most_input};
+ghost use Rattle.lb_system.specs.InternalAnswers.{IsCrewAnswer, IsInRange, IsModeAnswer, IsModeRefusal, RefusesLog, refused_log};
 
 use crate::answer::Refused;
 use crate::compiled::image_of;
