@@ -101,7 +101,8 @@ fn finished<F: Fn(Global, Machine, u8, u32) -> Result<Machine, AllocError>>(
     requires finishes { CallsFinish (F.post crew.now.finish) }
     requires image { IsImage image.now }
     requires frames { IsScript frames.items }
-    ensures { IfOk result (IsCrewsMachine crew.now.workers job.now (job_on image.now frames.items)) }
+    ensures { IfOk result (IsCrewsMachine crew.now.workers job.now
+        (job_on image.now frames.items)) }
 {
     let code = image.code.as_slice();
     let machine = Machine::boot(alloc, code, image.entry, frames, job.events)?;

@@ -86,7 +86,8 @@ fn append_events(
     shown: bool,
     trace: &[Event],
 ) -> Result<(), AllocError>
-    ensures { OnOk result (text.new.items ≡ text.old.items ++ events_text ending.now shown trace.now) }
+    ensures { OnOk result (text.new.items
+        ≡ text.old.items ++ events_text ending.now shown trace.now) }
 {
     let count = trace.len();
     let first = format!(in alloc; "mmio {count}\nend ")?;

@@ -163,7 +163,8 @@ fn call<F: Fn(Global, Machine, u8, u32) -> Result<Machine, AllocError>, I: Sourc
 fn write_report<O: Sink>(output: &mut O, shown: Shown) -> Ended
     ensures status { result.status ≡ status_of result.fault }
     ensures shown { shown_by result shown.report ≡ shown }
-    ensures report { WritesReport (port O.held O.faults output.old output.new) result.fault shown.report }
+    ensures report { WritesReport (port O.held O.faults output.old output.new) result.fault
+        shown.report }
     ensures sink { O.faults output.old ≤ O.faults output.new }
 {
     let Shown { report, log, image } = shown;
