@@ -69,7 +69,12 @@ fn append_form(alloc: Global, line: &mut Vec<u8>, fault: FormFault) -> Result<()
     ensures { OnOk result (line.new.items ≡ line.old.items ++ form_text fault) }
 {
     match fault {
-        FormFault::Section { line: at } => append_number(alloc, line, b"section line ", u64::from(at)),
+        FormFault::Section { line: at } => append_number(
+            alloc,
+            line,
+            b"section line ",
+            u64::from(at),
+        ),
         FormFault::Line(LineFault { line: at, kind }) => {
             append_number(alloc, line, b"line ", u64::from(at))?;
             append_word(line, line_word(kind))
