@@ -6,20 +6,22 @@ use std::test::Fail;
 const CHECK: [&str; 2] = ["bulb", "check"];
 
 // The text `before`, `many` times `part`, and the text `behind`.
-fn repeated(
-    alloc: Global,
-    before: &str,
-    part: &str,
+#[derive(Clone, Copy)]
+struct Repeated<'a> {
+    before: &'a str,
+    part: &'a str,
     many: u32,
-    behind: &str,
-) -> Result<Vec<u8>, AllocError> {
-    let mut text = Vec::new(alloc);
-    text.extend_from_slice(before.as_bytes())?;
-    for _ in 0..many {
-        text.extend_from_slice(part.as_bytes())?;
+    behind: &'a str,
+}
+
+// Appends the text.
+fn append(text: &mut Vec<u8>, repeated: Repeated<'_>) -> Result<(), AllocError> {
+    text.extend_from_slice(repeated.before.as_bytes())?;
+    for _ in 0..repeated.many {
+        text.extend_from_slice(repeated.part.as_bytes())?;
     }
-    text.extend_from_slice(behind.as_bytes())?;
-    Ok(text)
+    text.extend_from_slice(repeated.behind.as_bytes())?;
+    Ok(())
 }
 
 // `init`, `loop` and so many functions more.
@@ -56,19 +58,57 @@ fn answers(alloc: Global, text: &[u8], status: u8, line: &str) -> Result<bool, A
     ends(alloc, &call, status, line.as_bytes())
 }
 
+// What it answers to one text behind another.
+fn answers_both(
+    alloc: Global,
+    first: Repeated<'_>,
+    second: Repeated<'_>,
+    status: u8,
+    line: &str,
+) -> Result<bool, AllocError> {
+    let mut text = Vec::new(alloc);
+    append(&mut text, first)?;
+    append(&mut text, second)?;
+    answers(alloc, &text, status, line)
+}
+
+// What it answers to one text.
+fn answers_one(
+    alloc: Global,
+    text: Repeated<'_>,
+    status: u8,
+    line: &str,
+) -> Result<bool, AllocError> {
+    let nothing = Repeated {
+        before: "",
+        part: "",
+        many: 0,
+        behind: "",
+    };
+    answers_both(alloc, text, nothing, status, line)
+}
+
+// What it answers to `init`, `loop` and so many functions more.
+fn answers_functions(alloc: Global, many: u32, status: u8, line: &str) -> Result<bool, AllocError> {
+    answers(alloc, &functions(alloc, many)?, status, line)
+}
+
+// What it answers to a chain whose last function has a block of so many bytes.
+fn answers_chain(alloc: Global, last: u32, status: u8, line: &str) -> Result<bool, AllocError> {
+    answers(alloc, &chain(alloc, last)?, status, line)
+}
+
 #[test]
 fn takes_256_functions(rt: HostRuntime) -> Result<(), Fail> {
-    let most = functions(rt.alloc(), 254)?;
-    assert!(rt;
-        answers(
-            rt.alloc(),
-            &most,
-            0,
-            "ok functions 256 words 20496 stack 136\n"
-        )?
-    );
-    let past = functions(rt.alloc(), 255)?;
-    assert!(rt; answers(rt.alloc(), &past, 3, "check too-many-functions count 257\n")?);
+    for (many, status, line) in [
+        (254, 0, "ok functions 256 words 20496 stack 136\n"),
+        (255, 3, "check too-many-functions count 257\n"),
+    ] {
+        assert!(rt;
+            answers_functions(rt.alloc(), many, status, line)?,
+            "of {many}"
+        );
+    }
     Ok(())
 }
 
@@ -79,14 +119,13 @@ fn takes_branches_over_4080_bytes(rt: HostRuntime) -> Result<(), Fail> {
         (125, "ok functions 2 words 1204 stack 144\n"),
         (126, "ok functions 2 words 1212 stack 144\n"),
     ] {
-        let text = repeated(
-            rt.alloc(),
-            "fn init() { while 1 { x = 1; ",
-            "skip; ",
+        let text = Repeated {
+            before: "fn init() { while 1 { x = 1; ",
+            part: "skip; ",
             many,
-            "} } fn loop() { }",
-        )?;
-        assert!(rt; answers(rt.alloc(), &text, 0, line)?, "of {many}");
+            behind: "} } fn loop() { }",
+        };
+        assert!(rt; answers_one(rt.alloc(), text, 0, line)?, "of {many}");
     }
     Ok(())
 }
@@ -94,88 +133,107 @@ fn takes_branches_over_4080_bytes(rt: HostRuntime) -> Result<(), Fail> {
 // 16 + 80 + 80 + 4,074 * 8 = 32,768 words.
 #[test]
 fn takes_32768_words(rt: HostRuntime) -> Result<(), Fail> {
-    let most = repeated(
-        rt.alloc(),
-        "fn init() { ",
-        "skip; ",
-        4074,
-        "} fn loop() { }",
-    )?;
-    assert!(rt;
-        answers(
-            rt.alloc(),
-            &most,
-            0,
-            "ok functions 2 words 32768 stack 136\n"
-        )?
-    );
-    let past = repeated(
-        rt.alloc(),
-        "fn init() { ",
-        "skip; ",
-        4075,
-        "} fn loop() { }",
-    )?;
-    assert!(rt; answers(rt.alloc(), &past, 4, "limit code-need words 32776\n")?);
+    for (many, status, line) in [
+        (4074, 0, "ok functions 2 words 32768 stack 136\n"),
+        (4075, 4, "limit code-need words 32776\n"),
+    ] {
+        let text = Repeated {
+            before: "fn init() { ",
+            part: "skip; ",
+            many,
+            behind: "} fn loop() { }",
+        };
+        assert!(rt; answers_one(rt.alloc(), text, status, line)?, "of {many}");
+    }
     Ok(())
 }
 
 // 32 * 2,032 + 372 + 4 * (1 + 34) = 65,536 bytes, and 16 + 160 + 32 * 96 + 88 words.
 #[test]
 fn takes_65536_bytes_of_stack(rt: HostRuntime) -> Result<(), Fail> {
-    let most = chain(rt.alloc(), 372)?;
-    assert!(rt;
-        answers(
-            rt.alloc(),
-            &most,
-            0,
-            "ok functions 35 words 3336 stack 65536\n"
-        )?
-    );
-    let past = chain(rt.alloc(), 376)?;
-    assert!(rt; answers(rt.alloc(), &past, 4, "limit stack-need bytes 65540\n")?);
+    for (last, status, line) in [
+        (372, 0, "ok functions 35 words 3336 stack 65536\n"),
+        (376, 4, "limit stack-need bytes 65540\n"),
+    ] {
+        assert!(rt; answers_chain(rt.alloc(), last, status, line)?, "of {last}");
+    }
     Ok(())
 }
 
 // 16 bytes stand before the first of the brackets, of which the function's brace is one more.
 #[test]
 fn takes_64_open_brackets(rt: HostRuntime) -> Result<(), Fail> {
-    let opened = repeated(rt.alloc(), "fn init() { x = ", "(", 63, "1")?;
-    let closed = repeated(rt.alloc(), "", " + 1)", 63, "; } fn loop() { }")?;
-    let mut most = opened;
-    most.extend_from_slice(&closed)?;
-    assert!(rt; answers(rt.alloc(), &most, 0, "ok functions 2 words 946 stack 396\n")?);
-    let past = repeated(rt.alloc(), "fn init() { x = ", "(", 64, "1")?;
-    assert!(rt; answers(rt.alloc(), &past, 2, "text at 79 too-deep\n")?);
-    let opened = repeated(rt.alloc(), "fn init(){x=", "(", 64, "")?;
-    assert!(rt; answers(rt.alloc(), &opened, 2, "text at 75 too-deep\n")?);
+    let opened = Repeated {
+        before: "fn init() { x = ",
+        part: "(",
+        many: 63,
+        behind: "1",
+    };
+    let closed = Repeated {
+        before: "",
+        part: " + 1)",
+        many: 63,
+        behind: "; } fn loop() { }",
+    };
+    let needs = "ok functions 2 words 946 stack 396\n";
+    assert!(rt; answers_both(rt.alloc(), opened, closed, 0, needs)?);
+    let past = Repeated { many: 64, ..opened };
+    assert!(rt; answers_one(rt.alloc(), past, 2, "text at 79 too-deep\n")?);
+    let short = Repeated {
+        before: "fn init(){x=",
+        behind: "",
+        ..past
+    };
+    assert!(rt; answers_one(rt.alloc(), short, 2, "text at 75 too-deep\n")?);
     Ok(())
 }
 
 #[test]
 fn takes_names_of_32_bytes(rt: HostRuntime) -> Result<(), Fail> {
-    let most = repeated(
-        rt.alloc(),
-        "fn init() { } fn loop() { } fn ",
-        "a",
-        32,
-        "() { }",
-    )?;
-    assert!(rt; answers(rt.alloc(), &most, 0, "ok functions 3 words 256 stack 136\n")?);
-    let past = repeated(rt.alloc(), "fn ", "a", 33, "")?;
-    assert!(rt; answers(rt.alloc(), &past, 2, "text at 35 name-too-long\n")?);
+    let most = Repeated {
+        before: "fn init() { } fn loop() { } fn ",
+        part: "a",
+        many: 32,
+        behind: "() { }",
+    };
+    assert!(rt; answers_one(rt.alloc(), most, 0, "ok functions 3 words 256 stack 136\n")?);
+    let past = Repeated {
+        before: "fn ",
+        part: "a",
+        many: 33,
+        behind: "",
+    };
+    assert!(rt; answers_one(rt.alloc(), past, 2, "text at 35 name-too-long\n")?);
     Ok(())
 }
 
+// No text is read where it is too long.
 #[test]
 fn takes_1048576_bytes(rt: HostRuntime) -> Result<(), Fail> {
-    let empty = "fn init() { } fn loop() { }";
-    let most = repeated(rt.alloc(), empty, " ", 1_048_549, "")?;
-    assert!(rt; answers(rt.alloc(), &most, 0, "ok functions 2 words 176 stack 136\n")?);
-    let past = repeated(rt.alloc(), empty, " ", 1_048_550, "")?;
-    assert!(rt; answers(rt.alloc(), &past, 8, "input over 1048576 bytes\n")?);
-    // No text is read where it is too long.
-    let bad = repeated(rt.alloc(), "(", "(", 1_048_576, "")?;
-    assert!(rt; answers(rt.alloc(), &bad, 8, "input over 1048576 bytes\n")?);
+    for (before, part, many, status, line) in [
+        (
+            "fn init() { } fn loop() { }",
+            " ",
+            1_048_549u32,
+            0,
+            "ok functions 2 words 176 stack 136\n",
+        ),
+        (
+            "fn init() { } fn loop() { }",
+            " ",
+            1_048_550,
+            8,
+            "input over 1048576 bytes\n",
+        ),
+        ("(", "(", 1_048_576, 8, "input over 1048576 bytes\n"),
+    ] {
+        let text = Repeated {
+            before,
+            part,
+            many,
+            behind: "",
+        };
+        assert!(rt; answers_one(rt.alloc(), text, status, line)?, "of {many}");
+    }
     Ok(())
 }

@@ -67,33 +67,56 @@ fn written(alloc: Global, words: &[&str], input: &[u8]) -> Result<Vec<u8>, Alloc
     }
 }
 
+// The 64 events of the text that `interp` shows; None where its report is another.
+fn events_of(alloc: Global, text: &[u8]) -> Result<Option<Vec<u8>>, AllocError> {
+    let words = ["bulb", "interp", "--trace", "--events", "4000"];
+    let report = written(alloc, &words, text)?;
+    match report.strip_prefix(b"mmio 64\nend spent\n".as_slice()) {
+        Some(events) => Ok(Some(Vec::from_slice(alloc, events)?)),
+        None => Ok(None),
+    }
+}
+
+// Whether the call with these words writes these lines, and then the events.
+fn shows(
+    alloc: Global,
+    words: &[&str],
+    input: &[u8],
+    lines: &str,
+    events: &[u8],
+) -> Result<bool, AllocError> {
+    let report = written(alloc, words, input)?;
+    Ok(match report.strip_prefix(lines.as_bytes()) {
+        Some(rest) => rest == events,
+        None => false,
+    })
+}
+
+// Whether `gen` shows the events of the seed's program.
+fn gen_shows(alloc: Global, seed: u32, events: &[u8]) -> Result<bool, AllocError> {
+    let number = format!(in alloc; "{seed}")?;
+    let lines = format!(in alloc; "seed {seed}\n{LINES}")?;
+    let words = ["bulb", "gen", "--trace", "--seed", &number];
+    shows(alloc, &words, b"", &lines, events)
+}
+
+// Whether `check` finds the needs of a large program in the text, and `isa` makes the events.
+fn does(alloc: Global, text: &[u8], events: &[u8]) -> Result<bool, AllocError> {
+    let needs = "ok functions 66 words 18232 stack 10640\n";
+    let checked = shows(alloc, &["bulb", "check"], text, needs, b"")?;
+    let words = ["bulb", "isa", "--trace", "--events", "30000"];
+    let lines = "done 30000\nmmio 64\nend running\n";
+    Ok(checked && shows(alloc, &words, text, lines, events)?)
+}
+
 // Whether `check` finds the needs of a large program in the text, `interp` and `isa` make the same 64 events of it, and `gen`
 // shows those of `interp`.
 fn is_same(alloc: Global, seed: u32) -> Result<bool, AllocError> {
     let text = print_program(alloc, &large_program(alloc, seed)?)?;
-    let input = text.as_slice();
-    let needs = written(alloc, &["bulb", "check"], input)?;
-    let words = ["bulb", "interp", "--trace", "--events", "4000"];
-    let source = written(alloc, &words, input)?;
-    let words = ["bulb", "isa", "--trace", "--events", "30000"];
-    let code = written(alloc, &words, input)?;
-    let number = format!(in alloc; "{seed}")?;
-    let words = ["bulb", "gen", "--trace", "--seed", &number];
-    let shown = written(alloc, &words, b"")?;
-    let first = b"mmio 64\nend spent\n";
-    let events = match source.as_slice().strip_prefix(first.as_slice()) {
-        Some(events) => events,
-        None => return Ok(false),
-    };
-    let mut report = Vec::from_slice(alloc, format!(in alloc; "seed {seed}\n{LINES}")?.as_bytes())?;
-    report.extend_from_slice(events)?;
-    let mut run = Vec::from_slice(alloc, b"done 30000\nmmio 64\nend running\n")?;
-    run.extend_from_slice(events)?;
-    Ok(
-        needs.as_slice() == b"ok functions 66 words 18232 stack 10640\n".as_slice()
-            && shown == report
-            && code == run,
-    )
+    match events_of(alloc, &text)? {
+        Some(events) => Ok(does(alloc, &text, &events)? && gen_shows(alloc, seed, &events)?),
+        None => Ok(false),
+    }
 }
 
 #[test]

@@ -28,6 +28,11 @@ fn status(alloc: Global, text: &[u8]) -> Result<u8, AllocError> {
     Ok(call_plain(alloc, &whole(&["bulb", "isa", "--events", "100000"], text))?.status)
 }
 
+// The status of a program whose `init` has these lines.
+fn status_of_lines(alloc: Global, lines: &str) -> Result<u8, AllocError> {
+    status(alloc, &program(alloc, lines.as_bytes())?)
+}
+
 #[test]
 fn takes_names_and_numbers_up_to_their_ends(rt: HostRuntime) -> Result<(), Fail> {
     let rows = [
@@ -38,28 +43,35 @@ fn takes_names_and_numbers_up_to_their_ends(rt: HostRuntime) -> Result<(), Fail>
         ("  9Z = 0;\n", 2),
     ];
     for (lines, want) in rows {
-        let text = program(rt.alloc(), lines.as_bytes())?;
-        assert_eq!(rt; status(rt.alloc(), &text)?, want, "of {lines}");
+        assert_eq!(rt; status_of_lines(rt.alloc(), lines)?, want, "of {lines}");
     }
     Ok(())
+}
+
+// Whether a program that assigns so many variables runs.
+fn runs(alloc: Global, variables: u32) -> Result<bool, AllocError> {
+    let text = assignments(alloc, variables, 1)?;
+    let call = whole(&["bulb", "isa", "--events", "100000"], &text);
+    ends(alloc, &call, 0, b"done 100000\nmmio 0\nend running\n")
 }
 
 // A frame of 4 * (1,000 + 1 + 34) = 4,140 bytes.
 #[test]
 fn builds_large_frames(rt: HostRuntime) -> Result<(), Fail> {
-    let text = assignments(rt.alloc(), 1000, 1)?;
-    let call = whole(&["bulb", "isa", "--events", "100000"], &text);
-    assert!(rt; ends(rt.alloc(), &call, 0, b"done 100000\nmmio 0\nend running\n")?);
+    assert!(rt; runs(rt.alloc(), 1000)?);
     Ok(())
+}
+
+// The status of a program that assigns so many variables, so many times.
+fn status_of_assignments(alloc: Global, variables: u32, times: u32) -> Result<u8, AllocError> {
+    status(alloc, &assignments(alloc, variables, times)?)
 }
 
 // 2,328 assignments of 14 words are a need of 16 + 80 + 80 + 2,328 * 14 = 32,768 words.
 #[test]
 fn builds_code_up_to_32768_words(rt: HostRuntime) -> Result<(), Fail> {
-    let text = assignments(rt.alloc(), 8, 291)?;
-    assert_eq!(rt; status(rt.alloc(), &text)?, 0);
-    let past = assignments(rt.alloc(), 17, 137)?;
-    assert_eq!(rt; status(rt.alloc(), &past)?, 4);
+    assert_eq!(rt; status_of_assignments(rt.alloc(), 8, 291)?, 0);
+    assert_eq!(rt; status_of_assignments(rt.alloc(), 17, 137)?, 4);
     Ok(())
 }
 
