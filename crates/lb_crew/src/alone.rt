@@ -12,19 +12,23 @@ use lb_ports::{Gate, OpenGate};
 use lb_trace::Kind;
 
 /// The machine after worker 0 alone has fired, on the calling thread, the kinds that it draws by the seed, until the
-/// log has `max_events` entries or the core is halted. It waits for nobody and takes no memory.
+/// log has `max_events` entries or the core is halted. The log is that of the machine as it was given, and behind it
+/// the entries that were fired, all of worker 0; the machine is the replay of it. Nothing waits, and no memory is taken.
 pub fn serial(machine: Machine, seed: u32) -> Machine
     ensures fixed { result.fixed ≡ machine.fixed }
     ensures drawn { IsDrawn seed machine result }
+    ensures replay { IsReplay result }
     ensures finishes { (workers : ℕ) → 1 ≤ workers → Finishes seed workers machine result }
 {
     finish_alone(machine, seed, &OpenGate)
 }
 
-/// The same, but it stops as soon as the trace has so many events.
+/// The same, but it stops as soon as the trace has so many events: at once where it has them already. The log is made
+/// in the same way, with no entry behind that moment.
 pub fn serial_until(machine: Machine, seed: u32, events: u32) -> Machine
     ensures fixed { result.fixed ≡ machine.fixed }
     ensures drawn { IsDrawnUntil events seed machine result }
+    ensures replay { IsReplay result }
 {
     work_alone(machine, seed, Some(events), &OpenGate)
 }
@@ -35,16 +39,14 @@ pub(crate) fn finish_alone<G: Gate>(machine: Machine, seed: u32, gate: &G) -> Ma
     ensures drawn { IsDrawn seed machine result }
     ensures replay { IsReplay result }
 {
-    let machine = work_alone(machine, seed, None, gate);
-    // Names the log, so that what the machine keeps is known.
-    let _ = machine.log();
-    machine
+    work_alone(machine, seed, None, gate)
 }
 
 // Fires what worker 0 draws, until the machine has ended, or the trace has as many events as are asked for.
 fn work_alone<G: Gate>(mut machine: Machine, seed: u32, events: Option<u32>, gate: &G) -> Machine
     ensures fixed { result.fixed ≡ machine.fixed }
     ensures drawn { IsDrawnWithin events seed machine result }
+    ensures replay { IsReplay result }
 {
     let mut draws = Draws::new(seed, 0);
     let mut passes = Passes::new(gate, 0);

@@ -26,3 +26,6 @@ returns-then-not-fire_first-clause-drawn g c =
     let done = stopped c.args.events c.args.seed c.args.machine m c.loop-passes.draws c.loop-passes.invariant c.has_enough.ensures.replay
     (inl (c.fire_first.ensures.ended not)) in
     rw (c.fire_first.ensures.same not) done
+
+pub returns-then-not-fire_first-clause-replay : goal.returns-then-not-fire_first-clause-replay
+returns-then-not-fire_first-clause-replay g c = rw (c.fire_first.ensures.same c.if-not-fire_first.true) c.has_enough.ensures.replay
