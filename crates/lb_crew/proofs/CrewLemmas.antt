@@ -15,7 +15,7 @@ use Rattle.lb_machine.specs.declared.fault.NotFired.{NotFired}
 use Rattle.lb_machine.specs.Machines.{IsReplay, MachineContent}
 use Rattle.lb_machine.specs.Refusals.{FixedContent, Refuses}
 use Rattle.lb_crew.specs.Crews.{Finishes}
-use Rattle.lb_crew.specs.InternalCrew.{AllHaveWorked, GoesToEnd, HasWorked, IsEnd, SawEnd}
+use Rattle.lb_crew.specs.InternalCrew.{AllHaveWorked, HasWorked, IsEnd, SawEnd}
 use Rattle.lb_crew.proofs.EndLemmas.{ended_by}
 use Rattle.lb_crew.proofs.ListLemmas.{below_one_more, there_at}
 
@@ -60,20 +60,13 @@ module _ (value : MachineContent) (workers : ℕ) (o : TurnView MachineContent) 
       (subst (λ (n : ℕ). AllHaveWorked (new_seats o.turn n (length value.log) n) after) (sym opens.1)
       (subst (λ (l : List (SeatView NotFired)). AllHaveWorked l after) opens.2 w))
 
-  pub finished_by_many : (seed : ℕ) (new : MachineContent) → (workers ≡ 1 → ⊥) → GoesToEnd o.seats o.value new
-      → Finishes seed workers value new
-  finished_by_many seed new many g =
-      let goes : GoesToEnd workers value new =
-      subst (λ (n : ℕ). GoesToEnd n value new) opens.1 (subst (λ (v : MachineContent). GoesToEnd o.seats v new) opens.0 g) in
-      record {
-        fixed = goes.fixed;
-        added = goes.added;
-        begins = goes.begins;
-        workers_below = goes.workers_below;
-        ended = goes.ended;
-        replay = goes.replay;
-        drawn = λ one. absurd (many one);
-      }
+  pub finished_by_many : (seed : ℕ) (new : MachineContent) → (workers ≡ 1 → ⊥)
+      → ((s : ℕ) → (o.seats ≡ 1 → ⊥) → Finishes s o.seats o.value new) → Finishes seed workers value new
+  finished_by_many seed new many f =
+      let of_value : (workers ≡ 1 → ⊥) → Finishes seed workers value new =
+      subst (λ (n : ℕ). (n ≡ 1 → ⊥) → Finishes seed n value new) opens.1
+      (subst (λ (v : MachineContent). (o.seats ≡ 1 → ⊥) → Finishes seed o.seats v new) opens.0 (f seed)) in
+      of_value many
 
 -- ---- the end of a worker's work
 
@@ -118,8 +111,8 @@ module _ (o : TurnView MachineContent) (count : ℕ) (after : List (SeatView Not
   -- the first seat was told that the machine has ended, so it has
   pub goes_to_end : (m : MachineContent) → 0 < o.seats → IsReplay m
       → Closes (λ (x : MachineContent). x.log) (λ (x : MachineContent). x.fixed) Refuses o after m
-      → GoesToEnd o.seats o.value m
-  goes_to_end m positive r c =
+      → (seed : ℕ) → (o.seats ≡ 1 → ⊥) → Finishes seed o.seats o.value m
+  goes_to_end m positive r c seed many =
       let len = as_many in
       let d : SeatView NotFired = new_seat o.turn o.seats count 0 in
       let saw : SawEnd (slice_index_or after 0 d) = (seat_back 0 d positive).1 in
@@ -135,4 +128,5 @@ module _ (o : TurnView MachineContent) (count : ℕ) (after : List (SeatView Not
         ended = ended_by m saw.seen saw.kind saw.why r saw.is_end refused.0
             (subst (λ (f : FixedContent). Refuses f (take saw.seen m.log) saw.kind saw.why) (sym c.same) refused.1);
         replay = r;
+        drawn = λ one. absurd (many one);
       }

@@ -17,8 +17,8 @@ use Rattle.lb_machine.specs.Refusals.{FixedContent, Refuses, halted_after}
 use Rattle.lb_machine.specs.State.{Job, MachineView}
 use Rattle.lb_machine.proofs.LogLemmas.{logs_go_on}
 use Rattle.lb_crew.specs.Crews.{Finishes}
-use Rattle.lb_crew.specs.Drawn.{AreDrawn, HasEnded, IsDrawn, IsDrawnUntil, IsFirstEnabled, kind_behind, kind_of}
-use Rattle.lb_crew.specs.InternalDraws.{FiresFirst, HasEnough, IsDrawnWithin}
+use Rattle.lb_crew.specs.Drawn.{AreDrawn, HasEnded, HasFewer, IsDone, IsDrawn, IsDrawnWithin, IsFirstEnabled, kind_behind, kind_of}
+use Rattle.lb_crew.specs.InternalDraws.{FiresFirst, HasEnough}
 use Rattle.lb_crew.proofs.KindLemmas.{of_all}
 use Rattle.lb_crew.proofs.ListLemmas.{at_one_more, below_one_more, slice_within}
 
@@ -74,6 +74,10 @@ searched_on old now first kind m same is before r =
 
 -- ---- the loop over entries
 
+pub too_few : (events : Option ℕ) (trace : List Event) → (HasEnough events trace → ⊥) → HasFewer events trace
+too_few None trace not = tt
+too_few (Some events) trace not = lt_of_not-le not
+
 -- worker 0 alone went on from the old machine, and the trace had fewer events than asked for
 pub record Going (events : Option ℕ) (seed : ℕ) (old now : MachineContent) (state : ℕ) : Type 0 where
   pub fixed : now.fixed ≡ old.fixed
@@ -81,7 +85,7 @@ pub record Going (events : Option ℕ) (seed : ℕ) (old now : MachineContent) (
   pub begins : now.log ≡ old.log ++ added
   pub drawn : AreDrawn seed old.fixed.job old.log added
   pub state_is : state ≡ state_after seed 0 (length added)
-  pub fewer : (n : ℕ) → n < length added → HasEnough events (replay old.fixed.job (old.log ++ take n added)).trace → ⊥
+  pub fewer : (n : ℕ) → n < length added → HasFewer events (replay old.fixed.job (old.log ++ take n added)).trace
 
 pub begun : (events : Option ℕ) (seed : ℕ) (m : MachineContent) → Going events seed m m (state_after seed 0 0)
 begun events seed m = record {
@@ -94,7 +98,7 @@ begun events seed m = record {
 }
 
 module _ (events : Option ℕ) (seed : ℕ) (old now new : MachineContent) (state : ℕ) where
-  pub went_on : Going events seed old now state → IsReplay now → (HasEnough events now.trace → ⊥)
+  pub went_on : Going events seed old now state → IsReplay now → HasFewer events now.trace
       → new.fixed ≡ now.fixed → FiresFirst (kind_of (next_state state)) now new → Going events seed old new (next_state state)
   went_on g r few same f =
       let x = entry 0 f.kind in
@@ -105,10 +109,10 @@ module _ (events : Option ℕ) (seed : ℕ) (old now new : MachineContent) (stat
       subst (λ (s : ℕ). IsFirstEnabled job (old.log ++ l) (kind_of (next_state s)) f.kind) g.state_is
       (subst (λ (log : List Entry). IsFirstEnabled job log (kind_of (next_state state)) f.kind) g.begins
       (subst (λ (c : FixedContent). IsFirstEnabled c.job now.log (kind_of (next_state state)) f.kind) g.fixed f.is_first)) in
-      let events_now : HasEnough events (replay job (old.log ++ l)).trace → ⊥ =
-      subst (λ (log : List Entry). HasEnough events (replay job log).trace → ⊥) g.begins
-      (subst (λ (c : FixedContent). HasEnough events (replay c.job now.log).trace → ⊥) g.fixed
-      (subst (λ (t : List Event). HasEnough events t → ⊥) (ap (λ (s : MachineView). s.trace) r.state) few)) in
+      let events_now : HasFewer events (replay job (old.log ++ l)).trace =
+      subst (λ (log : List Entry). HasFewer events (replay job log).trace) g.begins
+      (subst (λ (c : FixedContent). HasFewer events (replay c.job now.log).trace) g.fixed
+      (subst (λ (t : List Event). HasFewer events t) (ap (λ (s : MachineView). s.trace) r.state) few)) in
       record {
         fixed = same ∙ g.fixed;
         added = added l 0 f.kind;
@@ -116,15 +120,19 @@ module _ (events : Option ℕ) (seed : ℕ) (old now new : MachineContent) (stat
         drawn = drawn_more seed job old.log l f.kind g.drawn first;
         state_is = ap next_state g.state_is ∙ ap (state_after seed 0) (sym one_more);
         fewer = λ n b. ⊎_elim
-            (λ h. subst (λ (t : List Entry). HasEnough events (replay job (old.log ++ t)).trace → ⊥)
+            (λ h. subst (λ (t : List Entry). HasFewer events (replay job (old.log ++ t)).trace)
             (sym (take-append-le n l (x ∷ []) (omega (arith, h)))) (g.fewer n h))
-            (λ (e : n ≡ length l). subst (λ (m : ℕ). HasEnough events (replay job (old.log ++ take m (l ++ x ∷ []))).trace → ⊥) (sym e)
-            (subst (λ (t : List Entry). HasEnough events (replay job (old.log ++ t)).trace → ⊥)
+            (λ (e : n ≡ length l). subst (λ (m : ℕ). HasFewer events (replay job (old.log ++ take m (l ++ x ∷ []))).trace) (sym e)
+            (subst (λ (t : List Entry). HasFewer events (replay job (old.log ++ t)).trace)
             (sym (take-append_seam l (x ∷ []))) events_now))
             (below_one_more n (length l) (omega (arith, b, one_more)));
       }
 
 -- ---- the end
+
+done : (events : Option ℕ) (m : MachineContent) → HasEnded m ⊎ HasEnough events m.trace → IsDone events m
+done None m h = ⊎_elim (λ e. e) (λ e. absurd e) h
+done (Some events) m h = h
 
 pub stopped : (events : Option ℕ) (seed : ℕ) (old now : MachineContent) (state : ℕ) → Going events seed old now state → IsReplay now
     → HasEnded now ⊎ HasEnough events now.trace → IsDrawnWithin events seed old now
@@ -133,28 +141,8 @@ stopped events seed old now state g r e = record {
   begins = g.begins;
   drawn = g.drawn;
   fits = subst (λ (c : FixedContent). length now.log ≤ c.max_events) g.fixed r.fits;
-  ended = e;
+  ended = done events now e;
   fewer = g.fewer;
-}
-
--- no events are asked for
-pub drawn_to_the_end : (seed : ℕ) (old new : MachineContent) → IsDrawnWithin None seed old new → IsDrawn seed old new
-drawn_to_the_end seed old new d = record {
-  added = d.added;
-  begins = d.begins;
-  drawn = d.drawn;
-  fits = d.fits;
-  ended = ⊎_elim (λ h. h) (λ (h : HasEnough None new.trace). absurd h) d.ended;
-}
-
-pub drawn_until : (events seed : ℕ) (old new : MachineContent) → IsDrawnWithin (Some events) seed old new → IsDrawnUntil events seed old new
-drawn_until events seed old new d = record {
-  added = d.added;
-  begins = d.begins;
-  drawn = d.drawn;
-  fits = d.fits;
-  ended = d.ended;
-  fewer = λ n b. lt_of_not-le (d.fewer n b);
 }
 
 -- ---- a crew of one

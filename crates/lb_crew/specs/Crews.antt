@@ -2,6 +2,7 @@
 use Rattle.std.specs.Prelude.{◌≡◌, ◌≤◌, ◌<◌, ◌^◌, ℕ, List, ◌++◌, All, IfOk, Result}
 use Rattle.lb_trace.specs.declared.Entry.{Entry}
 use Rattle.lb_machine.specs.Machines.{IsReplay, MachineContent}
+use Rattle.lb_crew.specs.declared.racing.TheConstants.{MOST_WORKERS}
 use Rattle.lb_crew.specs.Drawn.{HasEnded, IsDrawn}
 
 -- so many workers went on from the old machine until it ended: its job and its most entries stay,
@@ -18,14 +19,14 @@ pub record Finishes (seed workers : ℕ) (old new : MachineContent) : Type 0 whe
 
 -- ---- crews as calls, of memory, a machine, workers and a seed
 
--- the call may be made with any memory and machine, 1 to 8 workers and any seed
+-- the call may be made with any memory and machine, 1 to MOST_WORKERS workers and any seed
 abbrev pub MayCall : {A : Type 0} → (A → MachineContent → ℕ → ℕ → Type 0) → Type 0
 MayCall {A} may = (alloc : A) (machine : MachineContent) (workers seed : ℕ)
-    → 1 ≤ workers → workers ≤ 8 → seed < 2 ^ 32 → may alloc machine workers seed
+    → 1 ≤ workers → workers ≤ MOST_WORKERS → seed < 2 ^ 32 → may alloc machine workers seed
 
 -- it finishes the machine where it answers one
 abbrev pub CallsFinish : {A E : Type 0}
     → (A → MachineContent → ℕ → ℕ → Result MachineContent E → Type 0) → Type 0
 CallsFinish {A} {E} gives = (alloc : A) (machine : MachineContent) (workers seed : ℕ)
-    (result : Result MachineContent E) → 1 ≤ workers → workers ≤ 8 → seed < 2 ^ 32
+    (result : Result MachineContent E) → 1 ≤ workers → workers ≤ MOST_WORKERS → seed < 2 ^ 32
     → gives alloc machine workers seed result → IfOk result (Finishes seed workers machine)

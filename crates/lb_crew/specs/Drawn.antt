@@ -1,6 +1,7 @@
 -- What worker 0 alone adds to a log.
-use Rattle.std.specs.Prelude.{◌≡◌, ◌≤◌, ◌<◌, ◌%◌, ◌⊎◌, ℕ, zero, suc, true, false, List, ◌++◌, length, take, slice_get, All, Some}
+use Rattle.std.specs.Prelude.{◌≡◌, ◌≤◌, ◌<◌, ◌%◌, ◌⊎◌, ℕ, zero, suc, true, false, List, ◌++◌, length, take, slice_get, All, Option, Some, None}
 use Rattle.lb_trace.specs.declared.Entry.{Entry}
+use Rattle.lb_trace.specs.declared.Event.{Event}
 use Rattle.lb_trace.specs.declared.Kind.{Kind}
 use Rattle.lb_trace.specs.declared.Kind.TheVariants.{Fetch, Decode, Execute, Ram, Mmio, Writeback, Boot, Shift, Arrive}
 use Rattle.lb_rv.specs.declared.instr.Cause.{Cause}
@@ -9,6 +10,7 @@ use Rattle.lb_machine.specs.Logs.{may_fire, replay}
 use Rattle.lb_machine.specs.Machines.{MachineContent}
 use Rattle.lb_machine.specs.Refusals.{halted_after}
 use Rattle.lb_machine.specs.State.{Job}
+use Rattle.lb_crew.specs.declared.draws.TheConstants.{KINDS}
 
 -- the kind behind this one, and behind the last one the first
 abbrev pub next_kind : Kind → Kind
@@ -29,7 +31,7 @@ kind_behind kind (suc n) = next_kind (kind_behind kind n)
 
 -- the kind that a draw tells
 abbrev pub kind_of : ℕ → Kind
-kind_of x = kind_behind Fetch (x % 9)
+kind_of x = kind_behind Fetch (x % KINDS)
 
 -- the kind is the first one, from `first` on, that may be fired after the log
 pub record IsFirstEnabled (job : Job) (log : List Entry) (first kind : Kind) : Type 0 where
@@ -51,20 +53,31 @@ HasEnded m =
     (length m.log ≡ m.fixed.max_events)
     ⊎ ((cause : Cause) × (halted_after m.fixed.job m.log ≡ Some cause))
 
--- worker 0 alone went on from the old machine until it ended
-pub record IsDrawn (seed : ℕ) (old new : MachineContent) : Type 0 where
+-- the machine is done: it has ended or, where so many events are asked for, its trace has them
+abbrev pub IsDone : Option ℕ → MachineContent → Type 0
+IsDone None m = HasEnded m
+IsDone (Some events) m = HasEnded m ⊎ (events ≤ length m.trace)
+
+-- the trace has fewer events than are asked for, as each has where none are
+abbrev pub HasFewer : Option ℕ → List Event → Type 0
+HasFewer None trace = Unit {0}
+HasFewer (Some events) trace = length trace < events
+
+-- worker 0 alone went on from the old machine until it was done, and after fewer entries there were
+-- too few events
+pub record IsDrawnWithin (events : Option ℕ) (seed : ℕ) (old new : MachineContent) : Type 0 where
   pub added : List Entry
   pub begins : new.log ≡ old.log ++ added
   pub drawn : AreDrawn seed old.fixed.job old.log added
   pub fits : length new.log ≤ old.fixed.max_events
-  pub ended : HasEnded new
+  pub ended : IsDone events new
+  pub fewer : (n : ℕ) → n < length added
+      → HasFewer events (replay old.fixed.job (old.log ++ take n added)).trace
+
+-- worker 0 alone went on from the old machine until it ended
+abbrev pub IsDrawn : ℕ → MachineContent → MachineContent → Type 0
+IsDrawn = IsDrawnWithin None
 
 -- the same until it ended or the trace had so many events, as it had after no fewer entries
-pub record IsDrawnUntil (events seed : ℕ) (old new : MachineContent) : Type 0 where
-  pub added : List Entry
-  pub begins : new.log ≡ old.log ++ added
-  pub drawn : AreDrawn seed old.fixed.job old.log added
-  pub fits : length new.log ≤ old.fixed.max_events
-  pub ended : HasEnded new ⊎ (events ≤ length new.trace)
-  pub fewer : (n : ℕ) → n < length added
-      → length (replay old.fixed.job (old.log ++ take n added)).trace < events
+abbrev pub IsDrawnUntil : ℕ → ℕ → MachineContent → MachineContent → Type 0
+IsDrawnUntil events = IsDrawnWithin (Some events)

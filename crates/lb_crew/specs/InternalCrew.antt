@@ -1,12 +1,9 @@
 -- For private contracts alone: what the workers of a crew leave.
-use Rattle.std.specs.Prelude.{◌≡◌, ◌<◌, ℕ, List, ◌++◌, length, slice_index_or, All, Contains}
-use Rattle.lb_trace.specs.declared.Entry.{Entry}
+use Rattle.std.specs.Prelude.{◌≡◌, ◌<◌, ℕ, List, length, slice_index_or, Contains}
 use Rattle.lb_trace.specs.declared.Kind.{Kind}
 use Rattle.lb_turn.specs.Seats.{IsSameSeat, SeatView}
 use Rattle.lb_machine.specs.declared.fault.NotFired.{NotFired}
 use Rattle.lb_machine.specs.declared.fault.NotFired.TheVariants.{Halted, Full, GuardFalse}
-use Rattle.lb_machine.specs.Machines.{IsReplay, MachineContent}
-use Rattle.lb_crew.specs.Drawn.{HasEnded}
 
 -- the reason is that the machine has ended
 abbrev pub IsEnd : NotFired → Type 0
@@ -31,12 +28,3 @@ pub record AllHaveWorked (before after : List (SeatView NotFired)) : Type 0 wher
   pub as_many : length after ≡ length before
   pub each : (n : ℕ) (d : SeatView NotFired) → n < length before
       → HasWorked (slice_index_or before n d) (slice_index_or after n d)
-
--- so many workers went on from the old machine until it ended
-pub record GoesToEnd (workers : ℕ) (old new : MachineContent) : Type 0 where
-  pub fixed : new.fixed ≡ old.fixed
-  pub added : List Entry
-  pub begins : new.log ≡ old.log ++ added
-  pub workers_below : All (λ e. e.worker < workers) added
-  pub ended : HasEnded new
-  pub replay : IsReplay new

@@ -2,10 +2,10 @@
 ghost use Rattle.std.specs.Prelude.{◌≡◌, ◌≤◌, ◌↔◌, ℕ, IsFalse, IsTrue};
 ghost use Rattle.lb_machine.specs.Machines.{IsReplay};
 ghost use Rattle.lb_crew.specs.Crews.{Finishes};
-ghost use Rattle.lb_crew.specs.Drawn.{HasEnded, IsDrawn, IsDrawnUntil};
-ghost use Rattle.lb_crew.specs.InternalDraws.{FiresFirst, HasEnough, IsDrawnWithin};
+ghost use Rattle.lb_crew.specs.Drawn.{HasEnded, IsDrawn, IsDrawnUntil, IsDrawnWithin};
+ghost use Rattle.lb_crew.specs.InternalDraws.{FiresFirst, HasEnough};
 
-use crate::draws::{Passes, draw_kind, next_kind};
+use crate::draws::{KINDS, Passes, draw_kind, next_kind};
 use lb_draws::Draws;
 use lb_machine::{Machine, NotFired};
 use lb_ports::{Gate, OpenGate};
@@ -68,7 +68,7 @@ fn fire_first<G: Gate>(machine: &mut Machine, first: Kind, passes: &mut Passes<'
     ensures ended { IsFalse result → HasEnded machine.old }
 {
     let mut kind = first;
-    for _ in 0..9u8 {
+    for _ in 0..KINDS {
         passes.pass();
         match machine.fire(0, kind) {
             Ok(_) => return true,

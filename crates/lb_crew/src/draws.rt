@@ -7,6 +7,9 @@ use lb_draws::Draws;
 use lb_ports::Gate;
 use lb_trace::Kind;
 
+/// How many kinds there are.
+pub(crate) const KINDS: u32 = 9;
+
 // The kind behind this one, and behind the last one the first.
 pub(crate) fn next_kind(kind: Kind) -> Kind
     ensures { result ≡ kind_after kind }
@@ -36,7 +39,7 @@ pub(crate) fn draw_kind(draws: &mut Draws) -> Kind
 fn kind_of(draw: u32) -> Kind
     ensures { result ≡ told_kind draw }
 {
-    match draw % 9 {
+    match draw % KINDS {
         0 => Kind::Fetch,
         1 => Kind::Decode,
         2 => Kind::Execute,

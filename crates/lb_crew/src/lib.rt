@@ -6,4 +6,4 @@ mod draws;
 mod racing;
 
 pub use alone::{serial, serial_until};
-pub use racing::race;
+pub use racing::{MOST_WORKERS, race};

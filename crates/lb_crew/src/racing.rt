@@ -1,8 +1,8 @@
 // Several workers that race.
-ghost use Rattle.std.specs.Prelude.{◌≡◌, ◌≤◌, ◌<◌, All, IfOk, length, map};
+ghost use Rattle.std.specs.Prelude.{◌≡◌, ◌≤◌, ◌<◌, ℕ, All, IfOk, length, map};
 ghost use Rattle.lb_turn.specs.Seats.{IsOf, new_seats};
 ghost use Rattle.lb_crew.specs.Crews.{Finishes};
-ghost use Rattle.lb_crew.specs.InternalCrew.{AllHaveWorked, GoesToEnd, HasWorked};
+ghost use Rattle.lb_crew.specs.InternalCrew.{AllHaveWorked, HasWorked};
 
 use crate::alone::finish_alone;
 use crate::draws::{Passes, draw_kind, next_kind};
@@ -15,11 +15,14 @@ use std::sync::Wait;
 use std::thread;
 use std::thread::Threads;
 
-/// The machine after 1 to 8 workers have fired its kinds, until the log has `max_events` entries or the core is
-/// halted. A worker passes the gate, tries a kind, and stops where the machine has ended; it tries the same kind again
-/// where another worker had the turn, the next kind where the guard is false, and draws anew where it has fired. One
-/// worker works on the calling thread; of several each has a thread of its own, where one can be made. Where memory is
-/// refused the machine is dropped.
+/// The most workers of a crew.
+pub const MOST_WORKERS: u8 = 8;
+
+/// The machine after 1 to `MOST_WORKERS` workers have fired its kinds, until the log has `max_events` entries or the
+/// core is halted. A worker passes the gate, tries a kind, and stops where the machine has ended; it tries the same
+/// kind again where another worker had the turn, the next kind where the guard is false, and draws anew where it has
+/// fired. One worker works on the calling thread; of several each has a thread of its own, where one can be made. Where
+/// memory is refused the machine is dropped.
 pub fn race<R: Threads + Wait + Sync, G: Gate + Sync>(
     rt: &R,
     alloc: Global,
@@ -29,7 +32,7 @@ pub fn race<R: Threads + Wait + Sync, G: Gate + Sync>(
     gate: &G,
 ) -> Result<Machine, AllocError>
     requires some { 1 ≤ workers }
-    requires few { workers ≤ 8 }
+    requires few { workers ≤ MOST_WORKERS }
     ensures finished { IfOk result (Finishes seed workers machine) }
 {
     if workers == 1 {
@@ -109,7 +112,7 @@ fn close(turn: Turn<Machine>, seats: Vec<Seat<Machine>>) -> Machine
     requires some { 0 < turn.seats }
     requires worked { AllHaveWorked
         (new_seats turn.turn turn.seats (length turn.value.log) turn.seats) seats.items }
-    ensures { GoesToEnd turn.seats turn.value result }
+    ensures { (seed : ℕ) → ¬ (turn.seats ≡ 1) → Finishes seed turn.seats turn.value result }
 {
     match turn.close(seats) {
         Ok(machine) => {

@@ -1,7 +1,7 @@
 use Rattle.std.proofs.Common.{ℕ, sym, subst, inl}
 use Rattle.lb_trace.specs.declared.Kind.{Kind}
-use Rattle.lb_crew.specs.InternalDraws.{FiresFirst, HasEnough}
-use Rattle.lb_crew.proofs.DrawLemmas.{Going, begun, stopped, went_on}
+use Rattle.lb_crew.specs.InternalDraws.{FiresFirst}
+use Rattle.lb_crew.proofs.DrawLemmas.{Going, begun, stopped, too_few, went_on}
 use Rattle.lb_crew.proofs.alone.work_alone.Goals as goal
 
 pub loop-passes-init : goal.loop-passes-init
@@ -13,7 +13,7 @@ pub loop-passes-preserved : goal.loop-passes-preserved
 loop-passes-preserved g c =
     let m = c.loop-passes.machine in
     let new = c.fire_first.new.machine in
-    let few : HasEnough c.args.events m.trace → ⊥ = λ h. cc (c.has_enough.ensures.enough.1 h, c.loop-passes-test.true) in
+    let few = too_few c.args.events m.trace (λ h. cc (c.has_enough.ensures.enough.1 h, c.loop-passes-test.true)) in
     subst (λ (s : ℕ). Going c.args.events c.args.seed c.args.machine new s) (sym c.draw_kind-first.ensures.draws)
     (went_on c.args.events c.args.seed c.args.machine m new c.loop-passes.draws c.loop-passes.invariant c.has_enough.ensures.replay few
     c.fire_first.ensures.fixed
