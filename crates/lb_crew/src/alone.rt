@@ -5,7 +5,8 @@ ghost use Rattle.lb_crew.specs.Crews.{Finishes};
 ghost use Rattle.lb_crew.specs.Drawn.{HasEnded, IsDrawn, IsDrawnUntil, IsDrawnWithin};
 ghost use Rattle.lb_crew.specs.InternalDraws.{FiresFirst, HasEnough};
 
-use crate::draws::{KINDS, Passes, draw_kind, next_kind};
+use crate::draws::{KINDS, draw_kind, next_kind};
+use crate::passes::Passes;
 use lb_draws::Draws;
 use lb_machine::{Machine, NotFired};
 use lb_ports::{Gate, OpenGate};

@@ -1,10 +1,9 @@
-// The kinds that a worker draws, and the gate that it passes.
+// The kinds that a worker draws.
 ghost use Rattle.std.specs.Prelude.{◌≡◌};
 ghost use Rattle.lb_draws.specs.Draws.{next_state};
 ghost use Rattle.lb_crew.specs.Drawn.{kind_of as told_kind, next_kind as kind_after};
 
 use lb_draws::Draws;
-use lb_ports::Gate;
 use lb_trace::Kind;
 
 /// How many kinds there are.
@@ -49,30 +48,5 @@ fn kind_of(draw: u32) -> Kind
         6 => Kind::Boot,
         7 => Kind::Shift,
         _ => Kind::Arrive,
-    }
-}
-
-// A worker before the gate: its number, and how often it has passed.
-#[derive(Drop)]
-pub(crate) struct Passes<'a, G> {
-    gate: &'a G,
-    worker: u8,
-    count: u64,
-}
-
-impl<'a, G: Gate> Passes<'a, G> {
-    // A worker that hasn't passed yet.
-    pub(crate) fn new(gate: &'a G, worker: u8) -> Passes<'a, G> {
-        Passes {
-            gate,
-            worker,
-            count: 0,
-        }
-    }
-
-    // Passes the gate.
-    pub(crate) fn pass(&mut self) {
-        self.gate.pass(self.worker, self.count);
-        self.count = self.count.saturating_add(1);
     }
 }

@@ -3,6 +3,7 @@
 
 mod alone;
 mod draws;
+mod passes;
 mod racing;
 
 pub use alone::{serial, serial_until};

@@ -5,7 +5,8 @@ ghost use Rattle.lb_crew.specs.Crews.{Finishes};
 ghost use Rattle.lb_crew.specs.InternalCrew.{AllHaveWorked, HasWorked};
 
 use crate::alone::finish_alone;
-use crate::draws::{Passes, draw_kind, next_kind};
+use crate::draws::{draw_kind, next_kind};
+use crate::passes::Passes;
 use lb_draws::Draws;
 use lb_machine::{Machine, NotFired};
 use lb_ports::Gate;
