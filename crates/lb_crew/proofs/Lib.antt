@@ -4,3 +4,4 @@ mod DrawLemmas
 mod EndLemmas
 mod KindLemmas
 mod ListLemmas
+pub mod SeedLemmas

@@ -3,8 +3,10 @@
 
 mod alone;
 mod draws;
+mod laws;
 mod passes;
 mod racing;
 
 pub use alone::{serial, serial_until};
+pub use laws::seed_decides;
 pub use racing::{MOST_WORKERS, race};
