@@ -1,5 +1,5 @@
 -- What one worker alone adds, entry by entry.
-use Rattle.std.proofs.Common.{◌≡◌, ◌≤◌, ◌<◌, ◌⊎◌, ℕ, suc, ◌+◌, false, List, [], ◌∷◌, ◌++◌, length, take, All, Option, Some, None, refl, sym, ap, ◌∙◌, subst, ⊎_elim, arith}
+use Rattle.std.proofs.Common.{◌≡◌, ◌≤◌, ◌<◌, ◌⊎◌, ℕ, suc, ◌+◌, false, List, [], ◌∷◌, ◌++◌, length, take, All, Option, Some, None, refl, sym, ap, ◌∙◌, subst, ⊎_elim, inl, inr, arith}
 use Rattle.std.proofs.lemmas.List.{append-nil, append_assoc, length-append, take-append-le}
 use Rattle.std.proofs.lemmas.List.Elements.{All-append, All-cons, All-nil}
 use Rattle.std.proofs.Math.Nat.{lt_of_not-le}
@@ -18,7 +18,7 @@ use Rattle.lb_machine.specs.State.{Job, MachineView}
 use Rattle.lb_machine.proofs.LogLemmas.{logs_go_on}
 use Rattle.lb_crew.specs.Crews.{Finishes}
 use Rattle.lb_crew.specs.Drawn.{AreDrawn, HasEnded, HasFewer, IsDone, IsDrawn, IsDrawnWithin, IsFirstEnabled, kind_behind, kind_of}
-use Rattle.lb_crew.specs.InternalDraws.{FiresFirst, HasEnough}
+use Rattle.lb_crew.specs.InternalDraws.{FiresFirst}
 use Rattle.lb_crew.proofs.KindLemmas.{of_all}
 use Rattle.lb_crew.proofs.ListLemmas.{at_one_more, below_one_more, slice_within}
 
@@ -74,10 +74,6 @@ searched_on old now first kind m same is before r =
 
 -- ---- the loop over entries
 
-pub too_few : (events : Option ℕ) (trace : List Event) → (HasEnough events trace → ⊥) → HasFewer events trace
-too_few None trace not = tt
-too_few (Some events) trace not = lt_of_not-le not
-
 -- worker 0 alone went on from the old machine, and the trace had fewer events than asked for
 pub record Going (events : Option ℕ) (seed : ℕ) (old now : MachineContent) (state : ℕ) : Type 0 where
   pub fixed : now.fixed ≡ old.fixed
@@ -130,12 +126,13 @@ module _ (events : Option ℕ) (seed : ℕ) (old now new : MachineContent) (stat
 
 -- ---- the end
 
-done : (events : Option ℕ) (m : MachineContent) → HasEnded m ⊎ HasEnough events m.trace → IsDone events m
-done None m h = ⊎_elim (λ e. e) (λ e. absurd e) h
-done (Some events) m h = h
+done : (events : Option ℕ) (m : MachineContent) → HasEnded m ⊎ (HasFewer events m.trace → ⊥) → IsDone events m
+done None m h = ⊎_elim (λ e. e) (λ e. absurd (e tt)) h
+done (Some events) m h =
+    ⊎_elim inl (λ none. (let few : events < suc (length m.trace) = lt_of_not-le none in inr (omega (arith, few)))) h
 
 pub stopped : (events : Option ℕ) (seed : ℕ) (old now : MachineContent) (state : ℕ) → Going events seed old now state → IsReplay now
-    → HasEnded now ⊎ HasEnough events now.trace → IsDrawnWithin events seed old now
+    → HasEnded now ⊎ (HasFewer events now.trace → ⊥) → IsDrawnWithin events seed old now
 stopped events seed old now state g r e = record {
   added = g.added;
   begins = g.begins;

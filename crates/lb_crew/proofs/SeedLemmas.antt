@@ -3,7 +3,6 @@ use Rattle.std.proofs.Common.{◌≡◌, ◌<◌, ◌≤◌, ◌⊎◌, inl, inr
 use Rattle.std.proofs.lemmas.List.{length-append, take_all}
 use Rattle.std.proofs.lemmas.List.Elements.{All-head, All-tail}
 use Rattle.lb_trace.specs.declared.Entry.{Entry}
-use Rattle.lb_trace.specs.declared.Event.{Event}
 use Rattle.lb_trace.specs.declared.Kind.{Kind}
 use Rattle.lb_rv.specs.declared.instr.Cause.{Cause}
 use Rattle.lb_draws.specs.Draws.{draw}
@@ -13,7 +12,6 @@ use Rattle.lb_machine.specs.Machines.{IsReplay, MachineContent}
 use Rattle.lb_machine.specs.Refusals.{FixedContent, halted_after}
 use Rattle.lb_machine.proofs.EnabledLemmas.{enabled_goes}
 use Rattle.lb_crew.specs.Drawn.{AreDrawn, HasFewer, IsDone, IsFirstEnabled, kind_behind, kind_of}
-use Rattle.lb_crew.specs.InternalDraws.{HasEnough}
 use Rattle.lb_crew.specs.Laws.{RunsAlone, SeedDecides}
 
 -- of two numbers neither is below the other
@@ -80,7 +78,7 @@ module _ (seed : ℕ) (job : Job) (old a b : List Entry) (p : AreDrawn seed job 
 abbrev Stops : Option ℕ → FixedContent → List Entry → Type 0
 Stops events c log =
     (length log ≡ c.max_events)
-    ⊎ (((cause : Cause) × (halted_after c.job log ≡ Some cause)) ⊎ HasEnough events (replay c.job log).trace)
+    ⊎ (((cause : Cause) × (halted_after c.job log ≡ Some cause)) ⊎ (HasFewer events (replay c.job log).trace → ⊥))
 
 -- these entries are what a run adds behind the log
 record Adds (events : Option ℕ) (seed : ℕ) (c : FixedContent) (old added : List Entry) : Type 0 where
@@ -88,10 +86,6 @@ record Adds (events : Option ℕ) (seed : ℕ) (c : FixedContent) (old added : L
   fits : length (old ++ added) ≤ c.max_events
   stops : Stops events c (old ++ added)
   fewer : (n : ℕ) → n < length added → HasFewer events (replay c.job (old ++ take n added)).trace
-
-not_both : (events : Option ℕ) (trace : List Event) → HasFewer events trace → HasEnough events trace → ⊥
-not_both None trace few enough = enough
-not_both (Some events) trace few enough = omega (arith, few, enough)
 
 module _ (events : Option ℕ) (seed : ℕ) (c : FixedContent) (old : List Entry) where
   not_longer : (a b : List Entry) → Adds events seed c old a → Adds events seed c old b → length a < length b → ⊥
@@ -110,7 +104,7 @@ module _ (events : Option ℕ) (seed : ℕ) (c : FixedContent) (old : List Entry
       ⊎_elim (λ full. omega (arith, full, fits, lt, la, lb))
       (λ stopped. ⊎_elim
       (λ halted. (let goes = enabled_goes (replay c.job (old ++ a)) e.kind fires in let h = halted.1 in cc (h, goes)))
-      (λ enough. not_both events (replay c.job (old ++ a)).trace few enough) stopped)
+      (λ enough. enough few) stopped)
       p.stops
 
   one_added : (a b : List Entry) → Adds events seed c old a → Adds events seed c old b → a ≡ b
@@ -128,7 +122,7 @@ stops_done : (events : Option ℕ) (m : MachineContent) → IsReplay m → IsDon
 stops_done None m r h = ⊎_elim inl (λ e. inr (inl e)) h
 stops_done (Some events) m r h =
     ⊎_elim (λ end. ⊎_elim inl (λ e. inr (inl e)) end)
-    (λ enough. inr (inr (subst (λ (t : List Event). events ≤ length t) (replayed_trace m m.fixed refl r) enough))) h
+    (λ enough. inr (inr (λ few. (let same = ap length (replayed_trace m m.fixed refl r) in omega (arith, enough, few, same))))) h
 
 module _ (events : Option ℕ) (seed : ℕ) (c : FixedContent) (log : List Entry) (old new : MachineContent) (fixed : old.fixed ≡ c)
     (begun : old.log ≡ log) (run : RunsAlone events seed old new) where

@@ -1,6 +1,5 @@
 -- For private contracts alone: what one worker does, entry by entry.
-use Rattle.std.specs.Prelude.{◌≡◌, ◌≤◌, ◌<◌, ℕ, List, length, Option, Some, None}
-use Rattle.lb_trace.specs.declared.Event.{Event}
+use Rattle.std.specs.Prelude.{◌≡◌, ◌<◌, length}
 use Rattle.lb_trace.specs.declared.Kind.{Kind}
 use Rattle.lb_turn.specs.Entries.{added}
 use Rattle.lb_machine.specs.Machines.{MachineContent}
@@ -12,8 +11,3 @@ pub record FiresFirst (first : Kind) (old new : MachineContent) : Type 0 where
   pub is_first : IsFirstEnabled old.fixed.job old.log first kind
   pub log : new.log ≡ added old.log 0 kind
   pub room : length old.log < old.fixed.max_events
-
--- the trace has as many events as are asked for; where none are, it never has
-abbrev pub HasEnough : Option ℕ → List Event → Type 0
-HasEnough None trace = ⊥
-HasEnough (Some events) trace = events ≤ length trace

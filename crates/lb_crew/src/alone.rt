@@ -2,8 +2,8 @@
 ghost use Rattle.std.specs.Prelude.{◌≡◌, ◌≤◌, ◌↔◌, ℕ, IsFalse, IsTrue};
 ghost use Rattle.lb_machine.specs.Machines.{IsReplay};
 ghost use Rattle.lb_crew.specs.Crews.{Finishes};
-ghost use Rattle.lb_crew.specs.Drawn.{HasEnded, IsDrawn, IsDrawnUntil, IsDrawnWithin};
-ghost use Rattle.lb_crew.specs.InternalDraws.{FiresFirst, HasEnough};
+ghost use Rattle.lb_crew.specs.Drawn.{HasEnded, HasFewer, IsDrawn, IsDrawnUntil, IsDrawnWithin};
+ghost use Rattle.lb_crew.specs.InternalDraws.{FiresFirst};
 
 use crate::draws::{KINDS, draw_kind, next_kind};
 use crate::passes::Passes;
@@ -51,7 +51,7 @@ fn work_alone<G: Gate>(mut machine: Machine, seed: u32, events: Option<u32>, gat
 {
     let mut draws = Draws::new(seed, 0);
     let mut passes = Passes::new(gate, 0);
-    while !has_enough(&machine, events) {
+    while has_fewer(&machine, events) {
         let first = draw_kind(&mut draws);
         if !fire_first(&mut machine, first, &mut passes) {
             break;
@@ -80,15 +80,15 @@ fn fire_first<G: Gate>(machine: &mut Machine, first: Kind, passes: &mut Passes<'
     unreachable!()
 }
 
-// Whether the trace has as many events as are asked for.
-fn has_enough(machine: &Machine, events: Option<u32>) -> bool
-    ensures enough { IsTrue result ↔ HasEnough events machine.now.trace }
+// Whether the trace has fewer events than are asked for, as each has where none are.
+fn has_fewer(machine: &Machine, events: Option<u32>) -> bool
+    ensures fewer { IsTrue result ↔ HasFewer events machine.now.trace }
     ensures replay { IsReplay machine.now }
 {
     // Names the log, so that what the machine keeps is known.
     let _ = machine.log();
     match events {
-        None => false,
-        Some(events) => machine.trace().len() >= events as usize,
+        None => true,
+        Some(events) => machine.trace().len() < events as usize,
     }
 }
