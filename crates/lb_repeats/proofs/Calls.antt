@@ -1,5 +1,5 @@
 -- Two calls of the same words on the same bytes.
-use Rattle.std.proofs.Common.{◌≡◌, ◌<◌, ◌≤◌, Bool, true, false, List, [], ◌++◌, length, length-append, append-nil, arith, Option, Some, None, refl, sym, ap, ◌∙◌, subst, ⊎_elim}
+use Rattle.std.proofs.Common.{◌≡◌, ◌<◌, ◌≤◌, Bool, true, false, List, [], ◌++◌, length, length-append, append-nil, arith, Option, Some, None, refl, sym, ap, ◌∙◌, subst, ◌⊎◌, ⊎_elim}
 use Rattle.std.specs.Prelude.{IfSome}
 use Rattle.std.specs.Io.KnownBytes.{Appends, Consumes}
 use Rattle.lb_ports.specs.Bytes.{ReadsAll, ReadsMoreThan}
@@ -12,8 +12,8 @@ use Rattle.lb_system.specs.Request.{AreInForm, IsRequest}
 use Rattle.lb_system.specs.Faults.{fault_line, status_of}
 use Rattle.lb_system.specs.Views.{View, shown_by}
 use Rattle.lb_system.specs.Questions.{Case, Question, reads}
-use Rattle.lb_system.specs.Answers.{Failed, HasCause, HasReport, IsCase, IsKnownCase, IsLeft, IsOfInput, IsRead, IsReport, IsReported, IsTooMuch, IsWrittenOrCut, Known, Port, Shows, ShowsForm, ShowsNothing, TellsOf, UnlessMemory, WritesLine, WritesReport, most_input}
-use Rattle.lb_system.proofs.TopLemmas.{one_request}
+use Rattle.lb_system.specs.Answers.{Failed, HasCause, HasReport, IsCase, IsKnownCase, IsLeft, IsOfInput, IsRead, IsReport, IsReported, IsTooMuch, IsWritten, IsCut, Known, Port, Shows, ShowsForm, ShowsNothing, TellsOf, UnlessMemory, WritesLine, WritesReport, most_input}
+use Rattle.lb_system.proofs.TopLemmas.{case_same, one_request, read_whole}
 use Rattle.lb_repeats.specs.Repeats.{AnswerEqually, Call, CallsRepeat, IsPlain, IsUndisturbed}
 use Rattle.lb_repeats.proofs.Shown.{one_shown}
 use Rattle.lb_repeats.proofs.Told.{Laws, one_told}
@@ -26,31 +26,19 @@ abbrev input_on : Bool → Text → Text
 input_on true bytes = bytes
 input_on false bytes = []
 
-whole_read : (old new : Known) (bytes xs : Text) → old ≡ Some bytes → ReadsAll old new xs → xs ≡ bytes
-whole_read old new bytes xs e h = go new (subst (λ (o : Known). ReadsAll o new xs) e h)
-  where
-    go : (new : Known) → ReadsAll (Some bytes) new xs → xs ≡ bytes
-    go None h = absurd h.0
-    go (Some ys) h = sym (h.0 ∙ ap (λ (z : Text). xs ++ z) h.1 ∙ append-nil xs)
-
 read_is : (b : Bool) (source : Port) (bytes x : Text) → source.old ≡ Some bytes → IsRead b source x → x ≡ input_on b bytes
-read_is true source bytes x e h = whole_read source.old source.new bytes x e h
+read_is true source bytes x e h = read_whole source.old source.new bytes x e h
 read_is false source bytes x e h = h.1
 
 left_is : (b : Bool) (source : Port) (bytes x : Text) → source.old ≡ Some bytes → x ≡ input_on b bytes → IsLeft b source.old x
 left_is true source bytes x e h = e ∙ ap (λ (z : Text). Some z) (sym h)
 left_is false source bytes x e h = h
 
-same_case : (c d : Case) → c.job ≡ d.job → c.input ≡ d.input → c.image ≡ d.image → c ≡ d
-same_case c d j i m =
-    ap (λ x. record { job = x; input = c.input; image = c.image }) j ∙ ap (λ x. record { job = d.job; input = x; image = c.image }) i
-    ∙ ap (λ x. record { job = d.job; input = d.input; image = x }) m
-
 one_case : (words : List Text) (bytes : Text) (p q : Port) (i j : Option Image) (c d : Case) → i ≡ j → p.old ≡ Some bytes → q.old ≡ Some bytes
     → IsCase words p i c → IsCase words q j d → c ≡ d
 one_case words bytes p q i j c d e told told' h k =
     let job : c.job ≡ d.job = one_request words c.job d.job h.asked k.asked in
-    same_case c d job
+    case_same c d job
     (read_is (reads c.job) p bytes c.input told h.read ∙ ap (λ (x : Job). input_on (reads x) bytes) job ∙ sym (read_is (reads d.job) q bytes d.input told' k.read))
     (h.shown ∙ e ∙ sym k.shown)
 
@@ -67,8 +55,8 @@ known words bytes p q i j c e told told' steady h = record {
 
 -- ---- what is written
 
-whole_line : (sink : Port) (text : Text) → IsWrittenOrCut sink text → ¬ (Failed sink) → Appends sink.old sink.new text
-whole_line sink text h steady = ⊎_elim (λ whole. whole) (λ cut. absurd (steady cut.1)) h
+whole_line : (sink : Port) (text : Text) → IsWritten sink text ⊎ IsCut sink text → ¬ (Failed sink) → Appends sink.old sink.new text
+whole_line sink text h steady = ⊎_elim (λ whole. whole.0) (λ cut. absurd (steady cut.1)) h
 
 written : (sink : Port) (f : Fault) → ¬ (HasReport (Some f)) → ¬ (Failed sink) → WritesLine sink (Some f) → Appends sink.old sink.new (fault_line f)
 written sink fault.Write none steady h = absurd (none tt)

@@ -30,6 +30,7 @@ use Rattle.lb_words.specs.declared.job.Mode.TheVariants as mode
 use Rattle.lb_system.specs.declared.fault.Fault.{Fault}
 use Rattle.lb_system.specs.declared.fault.Fault.TheVariants as fault
 use Rattle.lb_system.specs.declared.fault.FormFault.TheVariants as form
+use Rattle.lb_system.specs.Faults.{sections_fault, image_fault, lines_fault}
 use Rattle.lb_system.specs.Report.{list_report}
 use Rattle.lb_system.specs.RunReport.{interp_report, isa_report}
 use Rattle.lb_system.specs.Views.{View, of_report, with_image}
@@ -38,7 +39,7 @@ use Rattle.lb_grammar.specs.declared.Verdict.{Verdict}
 use Rattle.lb_system.specs.MachineReport.{IsVerdict, verdict_text}
 use Rattle.lb_system.proofs.QuestionLemmas.{first_behind}
 use Rattle.lb_system.specs.Answers.{IsCheckReport, ShowsImage, ShowsListing}
-use Rattle.lb_system.specs.InternalAnswers.{IsModeAnswer, IsRefusalOf, IsOnly, IsOpened, LeavesForm, LeavesGrammar, BreaksRules, case_of, without_image, sections_fault, image_fault, lines_fault}
+use Rattle.lb_system.specs.InternalAnswers.{IsModeAnswer, IsRefusalOf, IsOnly, IsOpened, LeavesForm, LeavesGrammar, BreaksRules, case_of, without_image}
 
 -- ---- refusals
 

@@ -22,9 +22,10 @@ use Rattle.lb_system.specs.Request.{IsRequest}
 use Rattle.lb_system.specs.MachineReport.{IsLampReport, IsMachineReport}
 use Rattle.lb_system.specs.Views.{shown_by}
 use Rattle.lb_system.specs.Questions.{mode_reads, reads}
-use Rattle.lb_system.specs.Answers.{Port, IsCrewsLog, IsRead, IsReadLog, IsReport, CrewShows, Shows, ShowsLamp, ShowsMachine, ShowsRun, WritesReport, most_input, workers_of}
-use Rattle.lb_system.specs.Headline.{IsFullLog, IsLogOf, RunsItsMachine, RunsMachine, RunsTheLamp}
-use Rattle.lb_system.proofs.TopLemmas.{one_request}
+use Rattle.lb_system.specs.Answers.{Port, HasReport, IsCrewsLog, IsRead, IsReadLog, IsReport, CrewShows, Shows, ShowsLamp, ShowsMachine, ShowsRun, WritesReport, most_input, workers_of}
+use Rattle.lb_system.specs.Headline.{IsFullLog, IsLogOf, RunsItsMachine, RunsMachine, RunsRightly, RunsTheLamp}
+use Rattle.lb_system.proofs.IsaLemmas.{report_runs_image}
+use Rattle.lb_system.proofs.TopLemmas.{ToldReason, one_request, told_unreported}
 use Rattle.lb_system.specs.declared.crew.Workers.{Workers}
 
 -- ---- the log of a crew
@@ -91,7 +92,7 @@ machine_runs laws crew words source sink job e text input IsLog legal made read 
       runs = laws p shows.i frames e.log.items shows.compiled.keeps lawful;
     }
 
-pub report_runs_machine : MachinesKeep → (crew : Workers) (words : List Text) (source sink : Port) (job : Job) (e : Ended) (text : Text) → IsReport crew words source (shown_by e text)
+report_runs_machine : MachinesKeep → (crew : Workers) (words : List Text) (source sink : Port) (job : Job) (e : Ended) (text : Text) → IsReport crew words source (shown_by e text)
     → WritesReport sink e.fault text → IsRequest words job → RunsMachine job.mode → RunsItsMachine crew job source sink e
 report_runs_machine laws crew words source sink job e text r written asked is =
     let s = shown_by e text in
@@ -122,7 +123,7 @@ full_unhalted crew job on log full runs =
       | inr halted ↦ (let cause : Cause = halted.0 in let no : ⊥ = cc (runs, halted.1) in absurd no)
     ]
 
-pub report_runs_lamp : MachinesKeep → LampKeeps → (crew : Workers) (words : List Text) (source sink : Port) (job : Job) (e : Ended) (text : Text) → IsReport crew words source (shown_by e text)
+report_runs_lamp : MachinesKeep → LampKeeps → (crew : Workers) (words : List Text) (source sink : Port) (job : Job) (e : Ended) (text : Text) → IsReport crew words source (shown_by e text)
     → WritesReport sink e.fault text → IsRequest words job → job.mode ≡ mode.Lamp → RunsTheLamp crew job source sink e
 report_runs_lamp laws lamps crew words source sink job e text r written asked is =
     let s = shown_by e text in
@@ -153,4 +154,25 @@ report_runs_lamp laws lamps crew words source sink job e text r written asked is
       written = written;
       runs = laws supplied shows.i frames e.log.items shows.compiled.keeps lawful;
       lamp = lamp;
+    }
+
+-- ---- all modes
+
+pub report_runs : MachinesKeep → LampKeeps → (crew : Workers) (words : List Text) (source sink : Port) (e : Ended) (text : Text) → IsReport crew words source (shown_by e text)
+    → WritesReport sink e.fault text → RunsRightly crew words source sink e
+report_runs laws lamps crew words source sink e text r written =
+    record {
+      isa = λ job asked is told. report_runs_image crew words source sink job e text r written asked is;
+      machine = λ job asked is told. report_runs_machine laws crew words source sink job e text r written asked is;
+      lamp = λ job asked is told. report_runs_lamp laws lamps crew words source sink job e text r written asked is;
+    }
+
+-- without a report nothing is claimed
+pub unreported_runs : (crew : Workers) (words : List Text) (source sink : Port) (e : Ended) → ToldReason words source e.fault e.image → RunsRightly crew words source sink e
+unreported_runs crew words source sink e t =
+    let none : HasReport e.fault → ⊥ = told_unreported words source e.fault e.image t in
+    record {
+      isa = λ job asked is told. absurd (none told);
+      machine = λ job asked is told. absurd (none told);
+      lamp = λ job asked is told. absurd (none told);
     }

@@ -2,6 +2,7 @@
 use Rattle.std.proofs.Common.{◌≡◌, ◌≤◌, ◌⊎◌, inl, inr, ℕ, ◌+◌, List, [], ◌∷◌, ◌++◌, length, length-append, Option, Some, None, refl, sym, ap, subst, ◌∙◌, arith, slice_get, drop}
 use Rattle.std.specs.Prelude.{min}
 use Rattle.std.proofs.Math.Nat.{min-eq_left, min-eq_right}
+use Rattle.std.proofs.lemmas.Option.{same_Some}
 use Rattle.lb_trace.specs.declared.Event.TheVariants.{Ld, St}
 use Rattle.lb_trace.specs.Prefix.{IsPrefix}
 use Rattle.lb_steps.proofs.RunLemmas.{run-one_more, run-still_after}
@@ -13,9 +14,6 @@ use Rattle.lb_isa.specs.declared.processor.Stepped.{Stepped}
 use Rattle.lb_isa.specs.declared.processor.Stepped.TheVariants.{Committed, WantsReply, Halted}
 use Rattle.lb_isa.proofs.MoveLemmas.{move_extends}
 use Rattle.lb_system.specs.InternalLarge.{events_of, IsAt, IsBehind}
-
-some_same : {X : Type 0} (x y : X) → Some x ≡ Some y → x ≡ y
-some_same x y e = cc
 
 -- ---- the code on the instruction machine
 
@@ -34,16 +32,16 @@ move_as code s m events same at =
 moved_to : (r : Stepped) (m : IsaContent) (k events : ℕ) (s : RunState) → events_of r ≡ Some k → s.replies ≡ [] → events ≡ length s.trace
     → (t : RunState) × (moved r (processor_of m) s ≡ Some t) × IsAt m (events + k) t
 moved_to (Committed None) m k events s is replies count =
-    let none : 0 ≡ k = some_same 0 k is in
+    let none : 0 ≡ k = same_Some 0 k is in
     let t : RunState = record { processor = processor_of m; replies = s.replies; trace = s.trace; committed = s.committed + 1 } in
     (t, refl, record { processor = refl; replies = replies; events = omega (arith, none, count) })
 moved_to (Committed (Some (Ld a v))) m k events s is replies count =
-    let one : 1 ≡ k = some_same 1 k is in
+    let one : 1 ≡ k = same_Some 1 k is in
     let rest : List ℕ = drop 1 s.replies in
     let t : RunState = record { processor = processor_of m; replies = rest; trace = s.trace ++ Ld a v ∷ []; committed = s.committed + 1 } in
     (t, refl, record { processor = refl; replies = ap (drop 1) replies; events = omega (arith, one, count, length-append s.trace (Ld a v ∷ [])) })
 moved_to (Committed (Some (St a v))) m k events s is replies count =
-    let one : 1 ≡ k = some_same 1 k is in
+    let one : 1 ≡ k = same_Some 1 k is in
     let t : RunState = record { processor = processor_of m; replies = s.replies; trace = s.trace ++ St a v ∷ []; committed = s.committed + 1 } in
     (t, refl, record { processor = refl; replies = replies; events = omega (arith, one, count, length-append s.trace (St a v ∷ [])) })
 moved_to WantsReply m k events s is replies count = absurd cc

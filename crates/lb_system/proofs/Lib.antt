@@ -9,6 +9,7 @@ pub mod MachineAnswers
 pub mod MachineReports
 pub mod Headlines
 pub mod QuestionLemmas
+pub mod RefusalLemmas
 pub mod ReportLemmas
 pub mod SectionBounds
 pub mod SizeLemmas

@@ -1,5 +1,6 @@
 -- What is shown of a machine, from what its mode made.
 use Rattle.std.proofs.Common.{◌≡◌, inl, inr, ℕ, ◌≤◌, List, [], ◌∷◌, ◌++◌, length, Some, refl, sym, ap, subst, ◌∙◌}
+use Rattle.std.proofs.lemmas.Option.{same_Some}
 use Rattle.lb_trace.specs.declared.Entry.{Entry}
 use Rattle.lb_trace.specs.Frame.{FrameContent}
 use Rattle.lb_syntax.specs.Names.{Text}
@@ -9,6 +10,9 @@ use Rattle.lb_image.specs.declared.image.Image.{Image}
 use Rattle.lb_machine.specs.State.{Job as MachineJob}
 use Rattle.lb_machine.specs.Logs.{IsLegal}
 use Rattle.lb_machine.specs.Machines.{IsReplayOf, MachineContent}
+use Rattle.lb_machine.specs.Replays.{IsRightFault}
+use Rattle.lb_machine.specs.declared.fault.ReplayFault.{ReplayFault}
+use Rattle.lb_machine.specs.declared.fault.ReplayFault.TheVariants as fault
 use Rattle.lb_machine.proofs.MachineLemmas.{never_refused}
 use Rattle.lb_lines.specs.Lines.{lines_of}
 use Rattle.lb_lines.proofs.SpellingLemmas.{one_frames, one_log}
@@ -21,14 +25,11 @@ use Rattle.lb_correctness.specs.Laws.{LampKeeps}
 use Rattle.lb_correctness.specs.Machines.{job_on, trace_after}
 use Rattle.lb_words.specs.declared.job.Job.{Job}
 use Rattle.lb_words.specs.declared.job.Mode.TheVariants as mode
-use Rattle.lb_system.specs.declared.fault.Fault.{Fault}
-use Rattle.lb_system.specs.declared.fault.Fault.TheVariants as fault
-use Rattle.lb_system.specs.declared.fault.FormFault.TheVariants as form
 use Rattle.lb_system.specs.MachineReport.{IsLampReport, IsMachineReport}
 use Rattle.lb_system.specs.Views.{View, with_log}
 use Rattle.lb_system.specs.Questions.{Case, Sections, InForm, Frames, Entries, Legal, Holds, IsReplayed, SaysFrames, SaysLog, AllHold, checked, logged}
 use Rattle.lb_system.specs.Answers.{IsCrewsLog, IsCrewsMachine}
-use Rattle.lb_system.specs.InternalAnswers.{IsCrewAnswer, IsModeAnswer, IsOpened, IsRefusalOf, RefusesLog, case_of, refused_log}
+use Rattle.lb_system.specs.InternalAnswers.{IsCrewAnswer, IsModeAnswer, IsOpened, IsRefusalOf, case_of, refused_log}
 use Rattle.lb_system.proofs.QuestionLemmas.{first_behind}
 use Rattle.lb_system.proofs.AskLemmas.{of_all}
 use Rattle.lb_system.proofs.MachineReports.{replayed_trace}
@@ -106,9 +107,6 @@ lamp_made crew job input frames i m text s few said compiled crews told e =
 
 -- ---- replay
 
-some_image : (i j : Image) → Some i ≡ Some j → i ≡ j
-some_image i j e = cc
-
 entered_holds : (c : Case) (p : List Procedure) (frames : List FrameContent) (log : List Entry) → IsOpened 3 c.input p → KeepsRules p → SaysFrames (section 1 c.input) frames
     → SaysLog (section 2 c.input) log → AllHold c (Sections 3 ∷ (checked ++ InForm Frames 1 ∷ InForm Entries 2 ∷ []))
 entered_holds c p frames log o rules said entries =
@@ -118,7 +116,7 @@ entered_holds c p frames log o rules said entries =
 legal_holds : (job : Job) (input : Text) (i : Image) (frames : List FrameContent) (log : List Entry) → SaysFrames (section 1 input) frames → SaysLog (section 2 input) log
     → IsLegal (job_on i frames) log → Holds (case_of job input (Some i)) Legal
 legal_holds job input i frames log said entries legal = λ j others es r.
-    let image : i ≡ j = some_image i j r.used in
+    let image : i ≡ j = same_Some i j r.used in
     let arriving : frames ≡ others = one_frames.one_list (lines_of (section 1 input).line (section 1 input).text) frames others said r.arriving in
     let same : log ≡ es = one_log.one_list (lines_of (section 2 input).line (section 2 input).text) log es entries r.entries in
     subst (λ x. IsLegal (job_on j others) x) same (subst (λ x. IsLegal (job_on j x) log) arriving (subst (λ x. IsLegal (job_on x frames) log) image legal))
@@ -150,10 +148,10 @@ replay_made job input p frames log i m text s o said entries compiled replayed l
     ) in
     subst (IsModeAnswer mode.Replay job input) (sym (e ∙ ap (λ l. with_log text l i) replayed.1)) it
 
-pub log_refused : (job : Job) (input : Text) (p : List Procedure) (frames : List FrameContent) (log : List Entry) (i : Image) (f : Fault) → IsOpened 3 input p
-    → SaysFrames (section 1 input) frames → SaysLog (section 2 input) log → IsCompiled p i → RefusesLog (job_on i frames) log f → IsRefusalOf logged job input (refused_log f i)
+pub log_refused : (job : Job) (input : Text) (p : List Procedure) (frames : List FrameContent) (log : List Entry) (i : Image) (f : ReplayFault) → IsOpened 3 input p
+    → SaysFrames (section 1 input) frames → SaysLog (section 2 input) log → IsCompiled p i → IsRightFault (job_on i frames) log f → IsRefusalOf logged job input (refused_log f i)
 log_refused job input p frames log i fault.Memory o said entries compiled h = inl (refl, refl)
-log_refused job input p frames log i (fault.Form (form.Event at)) o said entries compiled h =
+log_refused job input p frames log i (fault.BadEvent at) o said entries compiled h =
     let c = case_of job input (Some i) in
     let replayed : IsReplayed c i frames log = record { used = refl; arriving = said; entries = entries } in
     let none : ¬ (Holds c Legal) = λ holds. never_refused (job_on i frames) log at (holds i frames log replayed) h in
@@ -167,13 +165,3 @@ log_refused job input p frames log i (fault.Form (form.Event at)) o said entries
       ),
       tt,
     )
-log_refused job input p frames log i (fault.Form (form.Section x)) o said entries compiled h = absurd h
-log_refused job input p frames log i (fault.Form (form.Line x)) o said entries compiled h = absurd h
-log_refused job input p frames log i (fault.Form (form.Image x)) o said entries compiled h = absurd h
-log_refused job input p frames log i (fault.Text x) o said entries compiled h = absurd h
-log_refused job input p frames log i (fault.Check x) o said entries compiled h = absurd h
-log_refused job input p frames log i (fault.Limit x) o said entries compiled h = absurd h
-log_refused job input p frames log i fault.Usage o said entries compiled h = absurd h
-log_refused job input p frames log i fault.Read o said entries compiled h = absurd h
-log_refused job input p frames log i fault.Write o said entries compiled h = absurd h
-log_refused job input p frames log i fault.TooLong o said entries compiled h = absurd h

@@ -3,6 +3,7 @@ use Rattle.std.proofs.Common.{◌≡◌, ◌≢◌, ◌⊎◌, inl, inr, ◌≤�
 use Rattle.std.specs.Prelude.{IfSome}
 use Rattle.std.specs.Io.KnownBytes.{Consumes}
 use Rattle.std.proofs.KnownBytes.{Consumes-nil}
+use Rattle.std.proofs.lemmas.Option.{same_Some}
 use Rattle.lb_ports.specs.Bytes.{ReadsAll, ReadsUpTo, ReadsMoreThan}
 use Rattle.lb_syntax.specs.Names.{Text}
 use Rattle.lb_image.specs.declared.image.Image.{Image}
@@ -20,9 +21,6 @@ use Rattle.lb_system.specs.InternalAnswers.{IsReason, IsRefusalOf, IsTold, case_
 use Rattle.lb_system.proofs.QuestionLemmas.{none_first, one_first, only_legal}
 use Rattle.lb_system.specs.declared.crew.Workers.{Workers}
 
-some_same : {X : Type 0} (x y : X) → Some x ≡ Some y → x ≡ y
-some_same x y e = cc
-
 -- ---- words ask for one job
 
 pub one_request : (words : List Text) (a b : Job) → IsRequest words a → IsRequest words b → a ≡ b
@@ -37,7 +35,7 @@ read_within old new xs bs e h = go new (subst (λ o. Consumes o new bs) e h)
     go None h = absurd h
     go (Some ys) h = omega (arith, ap length h, length-append bs ys)
 
-read_whole : (old new : Known) (xs bs : Text) → old ≡ Some xs → ReadsAll old new bs → bs ≡ xs
+pub read_whole : (old new : Known) (xs bs : Text) → old ≡ Some xs → ReadsAll old new bs → bs ≡ xs
 read_whole old new xs bs e h = go new (subst (λ o. ReadsAll o new bs) e h)
   where
     go : (new : Known) → ReadsAll (Some xs) new bs → bs ≡ xs
@@ -53,7 +51,7 @@ pub read_up_to : (b : Bool) (source : Port) (x : Text) → IsRead b source x →
 read_up_to true source x h short = (x, h.0, short)
 read_up_to false source x h short = ([], subst (λ o. Consumes source.old o []) (sym h.0) (Consumes-nil source.old), omega arith)
 
-case_same : (a b : Case) → a.job ≡ b.job → a.input ≡ b.input → a.image ≡ b.image → a ≡ b
+pub case_same : (a b : Case) → a.job ≡ b.job → a.input ≡ b.input → a.image ≡ b.image → a ≡ b
 case_same a b t i m =
     ap (λ x. record { job = x; input = a.input; image = a.image }) t ∙ ap (λ x. record { job = b.job; input = x; image = a.image }) i
     ∙ ap (λ x. record { job = b.job; input = b.input; image = x }) m
@@ -140,7 +138,7 @@ told_cases words source told i P u r l m c t =
     (λ g o cause fits. c g o cause) t.reason)
 
 of_input_same : (g f : Fault) → IsOfInput g → Some g ≡ Some f → IsOfInput f
-of_input_same g f o e = subst IsOfInput (some_same g f e) o
+of_input_same g f o e = subst IsOfInput (same_Some g f e) o
 
 pub told_usage : (words : List Text) (source : Port) (told : Option Fault) (i : Option Image) → ToldReason words source told i → told ≡ Some fault.Usage → ¬ (AreInForm words)
 told_usage words source told i =
@@ -287,7 +285,7 @@ refusal_fault qs job input r f other want h e =
 
 pub told_found : (r : Refused) (told : Option Fault) (i : Option Image) (f : Fault) → IsTold r told i → told ≡ Some f → f ≢ fault.Memory → r.fault ≡ f
 told_found r told i f t e other =
-    elim t [ inl found ↦ some_same r.fault f (sym found.0 ∙ e) | inr want ↦ absurd (other (some_same f fault.Memory (sym e ∙ want.1))) ]
+    elim t [ inl found ↦ same_Some r.fault f (sym found.0 ∙ e) | inr want ↦ absurd (other (same_Some f fault.Memory (sym e ∙ want.1))) ]
 
 pub told_steady : (r : Refused) (told : Option Fault) (i : Option Image) → IsTold r told i → told ≢ Some fault.Read → r.fault ≢ fault.Read
 told_steady r told i t other e =

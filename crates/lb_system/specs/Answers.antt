@@ -274,22 +274,24 @@ pub record IsReport (crew : Workers) (words : List Text) (source : Port) (s : Vi
   pub all : AllHold it (asks it)
   pub shows : Shows crew it.job it.input s
 
--- the text was written whole, or a part of it, and then the count of the sink's faults rose
-abbrev pub IsWrittenOrCut : Port → Text → Type 0
-IsWrittenOrCut sink text =
-    Appends sink.old sink.new text ⊎ (AppendsPrefix sink.old sink.new text × Failed sink)
+-- the text was written whole, and the count of the sink's faults stands
+abbrev pub IsWritten : Port → Text → Type 0
+IsWritten sink text = Appends sink.old sink.new text × (sink.after ≡ sink.before)
 
--- the line of a fault was written, or a part of it
+-- but a front of it was written, and the count rose
+abbrev pub IsCut : Port → Text → Type 0
+IsCut sink text = AppendsPrefix sink.old sink.new text × Failed sink
+
+-- the line of a fault was written, whole or cut
 abbrev pub WritesLine : Port → Option Fault → Type 0
 WritesLine sink None = Unit {0}
 WritesLine sink (Some fault.Write) = Unit {0}
-WritesLine sink (Some f) = IsWrittenOrCut sink (fault_line f)
+WritesLine sink (Some f) = IsWritten sink (fault_line f) ⊎ IsCut sink (fault_line f)
 
--- the report was written whole where there is no fault, and the sink's count stands; a part of it where
--- its write was refused, and then the count rose
+-- the report was written whole where there is no fault, and cut where its write was refused
 abbrev pub WritesReport : Port → Option Fault → Text → Type 0
-WritesReport sink None report = Appends sink.old sink.new report × (sink.after ≡ sink.before)
-WritesReport sink (Some fault.Write) report = AppendsPrefix sink.old sink.new report × Failed sink
+WritesReport sink None report = IsWritten sink report
+WritesReport sink (Some fault.Write) report = IsCut sink report
 WritesReport sink (Some _) report = ⊥
 
 -- what a call that ended so shows is the report of what was asked for on what was read, and its text

@@ -1,12 +1,26 @@
 -- The status and the line of each fault.
-use Rattle.std.specs.Prelude.{ℕ, ◌++◌, Option, Some, None, codes, decimal}
+use Rattle.std.specs.Prelude.{◌≡◌, ℕ, ◌++◌, Option, Some, None, codes, decimal}
 use Rattle.lb_syntax.specs.Names.{Text}
 use Rattle.lb_spelling.specs.declared.fault.TextKind.{TextKind}
 use Rattle.lb_spelling.specs.declared.fault.TextKind.TheVariants as kind
+use Rattle.lb_words.specs.declared.read.JobError.{JobError}
+use Rattle.lb_words.specs.declared.read.JobError.TheVariants as words
+use Rattle.lb_ports.specs.declared.whole.ReadAllFault.{ReadAllFault}
+use Rattle.lb_ports.specs.declared.whole.ReadAllFault.TheVariants as input
+use Rattle.lb_sections.specs.declared.cut.SectionsError.{SectionsError}
+use Rattle.lb_sections.specs.declared.cut.SectionsError.TheVariants as cut
+use Rattle.lb_text.specs.declared.error.ReadError.{ReadError}
+use Rattle.lb_text.specs.declared.error.ReadError.TheVariants as text
+use Rattle.lb_check.specs.declared.fault.CheckError.{CheckError}
+use Rattle.lb_check.specs.declared.fault.CheckError.TheVariants as check
 use Rattle.lb_check.specs.declared.fault.CheckFault.{CheckFault}
 use Rattle.lb_check.specs.declared.fault.CheckFault.TheVariants as rule
+use Rattle.lb_image.specs.declared.error.ImageError.{ImageError}
+use Rattle.lb_image.specs.declared.error.ImageError.TheVariants as bytes
 use Rattle.lb_image.specs.declared.error.ImageKind.{ImageKind}
 use Rattle.lb_image.specs.declared.error.ImageKind.TheVariants as image
+use Rattle.lb_lines.specs.declared.fault.LineError.{LineError}
+use Rattle.lb_lines.specs.declared.fault.LineError.TheVariants as lines
 use Rattle.lb_lines.specs.declared.fault.LineKind.{LineKind}
 use Rattle.lb_lines.specs.declared.fault.LineKind.TheVariants as line
 use Rattle.lb_system.specs.declared.fault.FormFault.{FormFault}
@@ -33,6 +47,52 @@ IsLimit (rule.FrameNeed _ _) = Unit {0}
 IsLimit (rule.CodeNeed _) = Unit {0}
 IsLimit (rule.StackNeed _) = Unit {0}
 IsLimit _ = ⊥
+
+-- ---- the fault that the error of a part is
+
+-- of words that ask for nothing
+abbrev pub words_fault : JobError → Fault
+words_fault words.Usage = fault.Usage
+words_fault words.Memory = fault.Memory
+
+-- of an input that isn't read
+abbrev pub input_fault : ReadAllFault → Fault
+input_fault input.Read = fault.Read
+input_fault input.TooLong = fault.TooLong
+input_fault input.Memory = fault.Memory
+
+-- of an input that isn't cut
+abbrev pub sections_fault : SectionsError → Fault
+sections_fault (cut.TooMany line) = fault.Form (form.Section line)
+sections_fault cut.Memory = fault.Memory
+
+-- of a text that is no program's
+abbrev pub text_fault : ReadError → Fault
+text_fault (text.Text f) = fault.Text f
+text_fault text.Memory = fault.Memory
+
+-- of a broken rule
+abbrev pub IsRuleFault : CheckFault → Fault → Type 0
+IsRuleFault f (fault.Check g) = (g ≡ f) × (¬ (IsLimit f))
+IsRuleFault f (fault.Limit g) = (g ≡ f) × IsLimit f
+IsRuleFault f _ = ⊥
+
+-- of a program that isn't checked
+abbrev pub IsCheckFault : CheckError → Fault → Type 0
+IsCheckFault (check.Fault f) g = IsRuleFault f g
+IsCheckFault check.Memory g = g ≡ fault.Memory
+
+-- of lines that aren't in form
+abbrev pub lines_fault : LineError → Fault
+lines_fault (lines.Line f) = fault.Form (form.Line f)
+lines_fault lines.Memory = fault.Memory
+
+-- of bytes that are no image's
+abbrev pub image_fault : ImageError → Fault
+image_fault (bytes.Fault f) = fault.Form (form.Image f)
+image_fault bytes.Memory = fault.Memory
+
+-- ---- the line
 
 -- how a text leaves the grammar, in a word
 abbrev pub kind_text : TextKind → Text

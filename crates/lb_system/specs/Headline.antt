@@ -23,7 +23,8 @@ use Rattle.lb_system.specs.declared.top.Ended.{Ended}
 use Rattle.lb_system.specs.RunReport.{isa_report}
 use Rattle.lb_system.specs.MachineReport.{IsMachineReport, IsLampReport}
 use Rattle.lb_system.specs.Questions.{SaysReplies, SaysFrames, SaysLog, source}
-use Rattle.lb_system.specs.Answers.{Port, WritesReport, most_input, workers_of}
+use Rattle.lb_system.specs.Request.{IsRequest}
+use Rattle.lb_system.specs.Answers.{Port, HasReport, WritesReport, most_input, workers_of}
 use Rattle.lb_system.specs.declared.crew.Workers.{Workers}
 
 -- ---- the instruction-set machine
@@ -112,3 +113,17 @@ pub record RunsTheLamp (crew : Workers) (job : Job) (source_port sink : Port) (e
   pub written : WritesReport sink e.fault report
   pub runs : IsRunOnMachine supplied image frames e.log.items
   pub lamp : IsRunOfLamp image frames e.log.items
+
+-- ---- all of them
+
+-- where the words ask for a mode that runs code, and there is a report, it is that of a run of the
+-- program in question: in `isa` of its code, in `run` and `replay` of the machine, in `lamp` of the
+-- supplied program on the machine
+pub record RunsRightly (crew : Workers) (words : List Text) (source_port sink : Port) (e : Ended)
+    : Type 0 where
+  pub isa : (job : Job) → IsRequest words job → job.mode ≡ mode.Isa → HasReport e.fault
+      → RunsItsImage job source_port sink e
+  pub machine : (job : Job) → IsRequest words job → RunsMachine job.mode → HasReport e.fault
+      → RunsItsMachine crew job source_port sink e
+  pub lamp : (job : Job) → IsRequest words job → job.mode ≡ mode.Lamp → HasReport e.fault
+      → RunsTheLamp crew job source_port sink e

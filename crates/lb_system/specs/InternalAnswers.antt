@@ -5,18 +5,11 @@ use Rattle.lb_ports.specs.Bytes.{ReadsUpTo, ReadsMoreThan}
 use Rattle.lb_syntax.specs.Names.{Text}
 use Rattle.lb_syntax.specs.Tree.{Procedure}
 use Rattle.lb_spelling.specs.Places.{IsAccepted, IsFault}
-use Rattle.lb_check.specs.declared.fault.CheckFault.{CheckFault}
 use Rattle.lb_image.specs.declared.image.Image.{Image}
-use Rattle.lb_image.specs.declared.error.ImageError.{ImageError}
-use Rattle.lb_image.specs.declared.error.ImageError.TheVariants as image
-use Rattle.lb_lines.specs.declared.fault.LineError.{LineError}
-use Rattle.lb_lines.specs.declared.fault.LineError.TheVariants as line
-use Rattle.lb_trace.specs.declared.Entry.{Entry}
-use Rattle.lb_machine.specs.State.{Job as MachineJob}
-use Rattle.lb_machine.specs.Logs.{IsFirstRefused, most_entries}
+use Rattle.lb_machine.specs.Logs.{most_entries}
+use Rattle.lb_machine.specs.declared.fault.ReplayFault.{ReplayFault}
+use Rattle.lb_machine.specs.declared.fault.ReplayFault.TheVariants as replay
 use Rattle.lb_sections.specs.Sections.{Part, sections}
-use Rattle.lb_sections.specs.declared.cut.SectionsError.{SectionsError}
-use Rattle.lb_sections.specs.declared.cut.SectionsError.TheVariants as cut
 use Rattle.lb_words.specs.declared.job.Job.{Job}
 use Rattle.lb_words.specs.declared.job.Mode.{Mode}
 use Rattle.lb_system.specs.declared.fault.Fault.{Fault}
@@ -24,7 +17,7 @@ use Rattle.lb_system.specs.declared.fault.Fault.TheVariants as fault
 use Rattle.lb_system.specs.declared.fault.FormFault.TheVariants as form
 use Rattle.lb_system.specs.declared.answer.Refused.{Refused}
 use Rattle.lb_system.specs.Request.{AreInForm}
-use Rattle.lb_system.specs.Faults.{IsLimit, TakesMemory}
+use Rattle.lb_system.specs.Faults.{TakesMemory}
 use Rattle.lb_system.specs.Views.{View}
 use Rattle.lb_system.specs.Questions.{Case, Question, Lines, HasLines, IsLineFault, questions, mode_questions, source, AllHold, IsCauseOf, BreaksRule, BreaksLimit}
 use Rattle.lb_system.specs.Answers.{Port, CrewShows, Shows, ModeShows, AskForInput, ReadFails, IsOfInput, HasCause, FitsImage, most_input}
@@ -79,25 +72,18 @@ IsTold found told i =
     ((told ≡ Some found.fault) × (i ≡ found.image))
     ⊎ (TakesMemory found.fault × (told ≡ Some fault.Memory) × (i ≡ None))
 
--- the fault that a broken rule is
-abbrev pub IsRuleFault : CheckFault → Fault → Type 0
-IsRuleFault f (fault.Check g) = (g ≡ f) × (¬ (IsLimit f))
-IsRuleFault f (fault.Limit g) = (g ≡ f) × IsLimit f
-IsRuleFault f _ = ⊥
+-- why words ask for nothing
+abbrev pub AsksNothing : List Text → Fault → Type 0
+AsksNothing words fault.Usage = ¬ (AreInForm words)
+AsksNothing words fault.Memory = Unit {0}
+AsksNothing words _ = ⊥
 
--- the fault of an input that isn't cut, and of bytes that are no image's
-abbrev pub sections_fault : SectionsError → Fault
-sections_fault (cut.TooMany line) = fault.Form (form.Section line)
-sections_fault cut.Memory = fault.Memory
-
-abbrev pub image_fault : ImageError → Fault
-image_fault (image.Fault f) = fault.Form (form.Image f)
-image_fault image.Memory = fault.Memory
-
--- the fault of lines that aren't in form
-abbrev pub lines_fault : LineError → Fault
-lines_fault (line.Line f) = fault.Form (form.Line f)
-lines_fault line.Memory = fault.Memory
+-- why an input isn't read
+abbrev pub LeavesUnread : Port → Fault → Type 0
+LeavesUnread source fault.Read = ReadFails source
+LeavesUnread source fault.TooLong = ReadsMoreThan source.old source.new most_input
+LeavesUnread source fault.Memory = ReadsUpTo source.old source.new most_input
+LeavesUnread source _ = ⊥
 
 -- why the lines of a section aren't in form
 abbrev pub LeavesForm : Lines → Part → Fault → Type 0
@@ -106,16 +92,10 @@ LeavesForm lines part (fault.Form (form.Line f)) =
     IsLineFault lines part f × (¬ (HasLines lines part))
 LeavesForm lines part _ = ⊥
 
--- why a log isn't replayed
-abbrev pub RefusesLog : MachineJob → List Entry → Fault → Type 0
-RefusesLog on log fault.Memory = Unit {0}
-RefusesLog on log (fault.Form (form.Event at)) = IsFirstRefused on log at
-RefusesLog on log _ = ⊥
-
 -- the refusal of a log: the image is shown with an entry that can't be fired
-abbrev pub refused_log : Fault → Image → Refused
-refused_log fault.Memory i = without_image fault.Memory
-refused_log f i = record { fault = f; image = Some i }
+abbrev pub refused_log : ReplayFault → Image → Refused
+refused_log replay.Memory i = without_image fault.Memory
+refused_log (replay.BadEvent at) i = record { fault = fault.Form (form.Event at); image = Some i }
 
 -- the job's numbers are in their ranges
 pub record IsInRange (job : Job) : Type 0 where

@@ -1,7 +1,6 @@
 // What is answered to a request on an input.
-ghost use Rattle.std.specs.Prelude.{◌≡◌, ◌≤◌, None, length, IfOk, IfErr, Contains};
+ghost use Rattle.std.specs.Prelude.{◌≡◌, ◌≤◌, None, length, IfOk, IfErr};
 ghost use Rattle.lb_crew.specs.Crews.{CallsFinish, MayCall};
-ghost use Rattle.lb_system.specs.Request.{modes};
 ghost use Rattle.lb_system.specs.Questions.{questions};
 ghost use Rattle.lb_system.specs.Answers.{most_input};
 ghost use Rattle.lb_system.specs.InternalAnswers.{IsAnswer, IsInRange, IsRefusalOf, without_image};
@@ -63,7 +62,6 @@ pub fn answer_to<F: Fn(Global, Machine, u8, u32) -> Result<Machine, AllocError>>
     requires range { IsInRange job.now }
     requires callable { MayCall (F.pre crew.now.finish) }
     requires finishes { CallsFinish (F.post crew.now.finish) }
-    requires there { Contains modes job.now.mode }
     ensures made { IfOk result (IsAnswer crew.now.workers job.now input.now) }
     ensures refused { IfErr result
         (IsRefusalOf (questions job.now input.now) job.now input.now) }

@@ -5,11 +5,12 @@ ghost use Rattle.lb_board.specs.Script.{IsScript};
 ghost use Rattle.lb_image.specs.Images.{IsImage};
 ghost use Rattle.lb_machine.specs.Logs.{HaveWorkers, IsLegal, most_entries};
 ghost use Rattle.lb_machine.specs.Machines.{IsReplayOf};
+ghost use Rattle.lb_machine.specs.Replays.{IsRightFault};
 ghost use Rattle.lb_crew.specs.Crews.{CallsFinish, MayCall};
 ghost use Rattle.lb_correctness.specs.Machines.{job_on};
 ghost use Rattle.lb_words.specs.declared.job.Mode.TheVariants as mode;
 ghost use Rattle.lb_system.specs.Answers.{IsCrewsMachine, most_input};
-ghost use Rattle.lb_system.specs.InternalAnswers.{IsCrewAnswer, IsInRange, IsModeAnswer, IsModeRefusal, RefusesLog, refused_log};
+ghost use Rattle.lb_system.specs.InternalAnswers.{IsCrewAnswer, IsInRange, IsModeAnswer, IsModeRefusal, refused_log};
 
 use crate::answer::Refused;
 use crate::compiled::image_of;
@@ -115,31 +116,27 @@ fn replayed(
     image: &Image,
     frames: Vec<Frame>,
     log: &[Entry],
-) -> Result<Machine, Fault>
+) -> Result<Machine, ReplayFault>
     requires image { IsImage image.now }
     requires frames { IsScript frames.items }
     requires few { length log.now ≤ most_entries }
     requires workers { HaveWorkers log.now }
     ensures replayed { IfOk result (IsReplayOf (job_on image.now frames.items) log.now) }
     ensures legal { IfOk result (λ m. IsLegal (job_on image.now frames.items) log.now) }
-    ensures refused { IfErr result (RefusesLog (job_on image.now frames.items) log.now) }
+    ensures refused { IfErr result (IsRightFault (job_on image.now frames.items) log.now) }
 {
-    match replay(alloc, image.code.as_slice(), image.entry, frames, log) {
-        Ok(machine) => Ok(machine),
-        Err(ReplayFault::BadEvent { at }) => Err(Fault::Form(FormFault::Event { at })),
-        Err(ReplayFault::Memory) => Err(Fault::Memory),
-    }
+    replay(alloc, image.code.as_slice(), image.entry, frames, log)
 }
 
 // Why a log isn't replayed; the image is shown with an entry that can't be fired.
-fn refused_log(fault: Fault, image: Image) -> Refused
+fn refused_log(fault: ReplayFault, image: Image) -> Refused
     ensures { result ≡ refused_log fault image }
 {
     match fault {
-        Fault::Memory => Refused::without_image(Fault::Memory),
-        fault => Refused {
-            fault,
+        ReplayFault::BadEvent { at } => Refused {
+            fault: Fault::Form(FormFault::Event { at }),
             image: Some(image),
         },
+        ReplayFault::Memory => Refused::without_image(Fault::Memory),
     }
 }

@@ -1,20 +1,22 @@
 // What each mode does.
 ghost use Rattle.std.specs.Prelude.{◌≡◌, ◌≤◌, ◌∷◌, ◌++◌, [], ℕ, List, length, IfOk, IfErr, true, false};
 ghost use Rattle.lb_syntax.specs.Tree.{program_of};
+ghost use Rattle.lb_image.specs.Images.{IsImage, image_bytes};
+ghost use Rattle.lb_words.specs.declared.job.Job.{Job as Asked};
 ghost use Rattle.lb_words.specs.declared.job.Mode.TheVariants as mode;
 ghost use Rattle.lb_system.specs.Questions.{listed, AllHold};
 ghost use Rattle.lb_system.specs.Answers.{ShowsListing, most_input};
-ghost use Rattle.lb_system.specs.InternalAnswers.{IsModeAnswer, IsModeRefusal, IsRefusalOf, case_of, image_fault};
+ghost use Rattle.lb_system.specs.InternalAnswers.{IsModeAnswer, IsModeRefusal, IsRefusalOf, case_of, without_image};
 
 use crate::answer::Refused;
 use crate::compiled::list_source;
-use crate::fault::{Fault, FormFault};
+use crate::fault::Fault;
 use crate::machine_report::verdict_line;
 use crate::report::{check_report, list_report};
 use crate::shown::Shown;
 use crate::source::{cut, events_of, open_checked, open_read};
 use lb_grammar::judge;
-use lb_image::{ImageError, from_bytes};
+use lb_image::{Image, from_bytes};
 use lb_sections::section_at;
 use lb_text::print_program;
 use lb_words::Job;
@@ -62,13 +64,18 @@ fn list_image(alloc: Global, job: &Job, input: &[u8]) -> Result<Shown, Refused>
         × ShowsListing true input.now s) }
     ensures refused { IfErr result (IsRefusalOf (listed true) job.now input.now) }
 {
-    match from_bytes(alloc, input) {
-        Ok(image) => {
-            let report = list_report(alloc, &image)?;
-            Ok(Shown::of_report(alloc, report))
-        }
-        Err(error) => Err(Refused::without_image(image_fault(error))),
-    }
+    let image = read_image(alloc, input)?;
+    let report = list_report(alloc, &image)?;
+    Ok(Shown::of_report(alloc, report))
+}
+
+// The image that the bytes are.
+fn read_image(alloc: Global, input: &[u8]) -> Result<Image, Fault>
+    ensures read { IfOk result (λ image. IsImage image × (input.now ≡ image_bytes image)) }
+    ensures refused { IfErr result (λ f. (job : Asked)
+        → IsRefusalOf (listed true) job input.now (without_image f)) }
+{
+    Ok(from_bytes(alloc, input)?)
 }
 
 /// Judges the accesses of devices that the input says.
@@ -81,14 +88,4 @@ pub fn judge_mode(alloc: Global, job: &Job, input: &[u8]) -> Result<Shown, Refus
     let events = events_of(alloc, &section_at(&list, 0))?;
     let report = verdict_line(alloc, judge(&events))?;
     Ok(Shown::of_report(alloc, report))
-}
-
-// The fault of bytes that are no image's.
-fn image_fault(error: ImageError) -> Fault
-    ensures { result ≡ image_fault error }
-{
-    match error {
-        ImageError::Fault(fault) => Fault::Form(FormFault::Image(fault)),
-        ImageError::Memory => Fault::Memory,
-    }
 }

@@ -1,10 +1,11 @@
 // The words of a command line, and what they ask for.
-ghost use Rattle.std.specs.Prelude.{◌≡◌, IfOk, IsErrOf, Contains, map, string_bytes};
-ghost use Rattle.lb_system.specs.Request.{AreInForm, IsRequest, modes};
+ghost use Rattle.std.specs.Prelude.{◌≡◌, IfOk, IfErr, map, string_bytes};
+ghost use Rattle.lb_system.specs.Request.{IsRequest, modes};
 ghost use Rattle.lb_system.specs.Questions.{reads};
-ghost use Rattle.lb_system.specs.InternalAnswers.{IsInRange};
+ghost use Rattle.lb_system.specs.InternalAnswers.{AsksNothing, IsInRange};
 
-use lb_words::{Job, JobError, Mode, job_of};
+use crate::fault::Fault;
+use lb_words::{Job, Mode, job_of};
 use std::alloc::Global;
 
 /// The modes.
@@ -23,13 +24,12 @@ const MODES: [Mode; 11] = [
 ];
 
 /// What the words ask for, the program's name being the first of them.
-pub fn request_of(alloc: Global, words: &[String]) -> Result<Job, JobError>
+pub fn request_of(alloc: Global, words: &[String]) -> Result<Job, Fault>
     ensures asked { IfOk result (IsRequest (map string_bytes words.now)) }
-    ensures there { IfOk result (λ job. Contains modes job.mode) }
     ensures range { IfOk result IsInRange }
-    ensures usage { IsErrOf result JobError.Usage → ¬ (AreInForm (map string_bytes words.now)) }
+    ensures refused { IfErr result (AsksNothing (map string_bytes words.now)) }
 {
-    job_of(alloc, words, &MODES)
+    Ok(job_of(alloc, words, &MODES)?)
 }
 
 /// Whether a job has an input.

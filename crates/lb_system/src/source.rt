@@ -1,22 +1,21 @@
 // The source of an input, and the sections behind it.
-ghost use Rattle.std.specs.Prelude.{◌≡◌, ◌≤◌, ◌<◌, ◌+◌, ◌∷◌, ◌++◌, [], ◌^◌, ℕ, List, length, map, IfOk, OnOk, IfErr, IsTrue, ◌↔◌};
+ghost use Rattle.std.specs.Prelude.{◌≡◌, ◌≤◌, ◌<◌, ◌+◌, ◌∷◌, ◌++◌, [], ◌^◌, ℕ, List, length, map, IfOk, OnOk, IfErr};
 ghost use Rattle.lb_syntax.specs.Tree.{program_of};
 ghost use Rattle.lb_syntax.specs.Rules.{KeepsRules};
 ghost use Rattle.lb_check.specs.Parts.{parts};
 ghost use Rattle.lb_sections.specs.Sections.{seen, section, sections};
 ghost use Rattle.lb_words.specs.declared.job.Job.{Job};
-ghost use Rattle.lb_system.specs.Faults.{IsLimit};
 ghost use Rattle.lb_system.specs.Questions.{Question, Sections, Grammar, InForm, Frames, Entries, Events, Replies, SaysReplies, SaysFrames, SaysLog, SaysEvents, checked, replied};
 ghost use Rattle.lb_system.specs.Answers.{most_input};
-ghost use Rattle.lb_system.specs.InternalAnswers.{BreaksRules, IsOnly, IsOpened, IsRefusalOf, IsRuleFault, LeavesForm, LeavesGrammar, sections_fault};
+ghost use Rattle.lb_system.specs.InternalAnswers.{BreaksRules, IsOnly, IsOpened, IsRefusalOf, LeavesForm, LeavesGrammar, without_image};
 
 use crate::answer::Refused;
-use crate::fault::{Fault, FormFault};
-use lb_check::{CheckError, CheckFault, Checked, check};
+use crate::fault::Fault;
+use lb_check::{Checked, check};
 use lb_lines::{read_frames, read_log, read_replies, read_trace};
-use lb_sections::{Section, SectionsError, section_at, sections_of};
+use lb_sections::{Section, section_at, sections_of};
 use lb_syntax::Program;
-use lb_text::{ReadError, read_program};
+use lb_text::read_program;
 use lb_trace::{Entry, Event, Frame};
 use std::alloc::Global;
 
@@ -130,28 +129,15 @@ pub fn open_read<'a>(
 }
 
 /// The sections, of which there are at most so many.
-pub fn cut<'a>(alloc: Global, input: &'a [u8], most: u32) -> Result<Vec<Section<'a>>, Refused>
+pub fn cut<'a>(alloc: Global, input: &'a [u8], most: u32) -> Result<Vec<Section<'a>>, Fault>
     requires short { length input.now ≤ most_input }
     requires some { 1 ≤ most }
     ensures list { IfOk result (λ list. map seen list.items ≡ sections input.now) }
     ensures few { IfOk result (λ list. length (sections input.now) ≤ most) }
-    ensures refused { IfErr result (λ r. (job : Job) (qs : List Question)
-        → IsRefusalOf (Sections most ∷ qs) job input.now r) }
+    ensures refused { IfErr result (λ f. (job : Job) (qs : List Question)
+        → IsRefusalOf (Sections most ∷ qs) job input.now (without_image f)) }
 {
-    match sections_of(alloc, input, most) {
-        Ok(list) => Ok(list),
-        Err(error) => Err(Refused::without_image(sections_fault(error))),
-    }
-}
-
-// The fault of an input that isn't cut.
-fn sections_fault(error: SectionsError) -> Fault
-    ensures { result ≡ sections_fault error }
-{
-    match error {
-        SectionsError::TooMany { line } => Fault::Form(FormFault::Section { line }),
-        SectionsError::Memory => Fault::Memory,
-    }
+    Ok(sections_of(alloc, input, most)?)
 }
 
 // The program of a source.
@@ -161,11 +147,7 @@ fn read(alloc: Global, text: &[u8]) -> Result<Program, Fault>
     ensures small { IfOk result (λ program. parts (program_of program) < 2 ^ 30) }
     ensures refused { IfErr result (LeavesGrammar text.now) }
 {
-    match read_program(alloc, text) {
-        Ok(program) => Ok(program),
-        Err(ReadError::Text(fault)) => Err(Fault::Text(fault)),
-        Err(ReadError::Memory) => Err(Fault::Memory),
-    }
+    Ok(read_program(alloc, text)?)
 }
 
 // The program, which keeps the rules, or the first that it breaks.
@@ -175,30 +157,5 @@ fn check_rules(alloc: Global, program: Program) -> Result<Checked, Fault>
     ensures rules { OnOk result (KeepsRules (program_of program)) }
     ensures refused { IfErr result (BreaksRules (program_of program)) }
 {
-    match check(alloc, program) {
-        Ok(checked) => Ok(checked),
-        Err(CheckError::Fault(fault)) => Err(fault_of(fault)),
-        Err(CheckError::Memory) => Err(Fault::Memory),
-    }
-}
-
-// The fault that a broken rule is.
-fn fault_of(fault: CheckFault) -> Fault
-    ensures { IsRuleFault fault result }
-{
-    if is_limit(&fault) {
-        Fault::Limit(fault)
-    } else {
-        Fault::Check(fault)
-    }
-}
-
-// Whether the rule is one on what a program may ask for.
-fn is_limit(fault: &CheckFault) -> bool
-    ensures { IsTrue result ↔ IsLimit fault.now }
-{
-    matches!(
-        fault,
-        CheckFault::FrameNeed { .. } | CheckFault::CodeNeed { .. } | CheckFault::StackNeed { .. }
-    )
+    Ok(check(alloc, program)?)
 }

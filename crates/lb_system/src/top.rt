@@ -1,18 +1,15 @@
 // The top call.
-ghost use Rattle.std.specs.Prelude.{◌≡◌, ◌≢◌, ◌≤◌, [], true, false, length, Some, IfOk, OnOk, IfErr, IsErrOf, map, string_bytes};
-ghost use Rattle.lb_ports.specs.Bytes.{ReadsUpTo, ReadsMoreThan};
+ghost use Rattle.std.specs.Prelude.{◌≡◌, ◌≢◌, ◌≤◌, [], true, false, length, Some, IfOk, OnOk, IfErr, map, string_bytes};
 ghost use Rattle.lb_crew.specs.Crews.{CallsFinish, Finishes, MayCall};
-ghost use Rattle.lb_words.specs.declared.job.Job.{Job as Asked};
-ghost use Rattle.lb_words.specs.declared.job.Mode.TheVariants as mode;
 ghost use Rattle.lb_system.specs.declared.crew.Workers.TheVariants as workers;
 ghost use Rattle.lb_system.specs.Request.{IsRequest};
 ghost use Rattle.lb_system.specs.Faults.{fault_line, status_of};
 ghost use Rattle.lb_system.specs.Views.{shown_by};
 ghost use Rattle.lb_system.specs.Questions.{reads};
-ghost use Rattle.lb_system.specs.Answers.{AskForInput, HasReport, IsRead, IsReport, ReadFails, WritesLine, WritesReport, most_input, port};
+ghost use Rattle.lb_system.specs.Answers.{AskForInput, IsRead, IsReport, WritesLine, WritesReport, most_input, port};
 ghost use Rattle.lb_system.specs.Calls.{EndsRightly};
-ghost use Rattle.lb_system.specs.Headline.{RunsItsImage, RunsItsMachine, RunsMachine, RunsTheLamp};
-ghost use Rattle.lb_system.specs.InternalAnswers.{IsReason, IsTold};
+ghost use Rattle.lb_system.specs.Headline.{RunsRightly};
+ghost use Rattle.lb_system.specs.InternalAnswers.{IsReason, IsTold, LeavesUnread};
 
 use crate::answer::{Refused, answer_to};
 use crate::crew::{Crew, Workers};
@@ -24,9 +21,9 @@ use lb_correctness::{lamp_keeps, machines_keep};
 use lb_crew::{race, serial};
 use lb_image::Image;
 use lb_machine::Machine;
-use lb_ports::{Gate, ReadAllFault, Sink, Source, read_all, write_all};
+use lb_ports::{Gate, Sink, Source, read_all, write_all};
 use lb_trace::Entry;
-use lb_words::{Job, JobError};
+use lb_words::Job;
 use std::alloc::{AllocError, Global};
 use std::sync::Wait;
 use std::thread::Threads;
@@ -60,17 +57,8 @@ pub fn plain<I: Source, O: Sink>(
         (port I.left I.faults input.old input.new)
         (port O.held O.faults output.old output.new) result }
     ensures unread { ¬ (AskForInput (map string_bytes words.now)) → input.new ≡ input.old }
-    ensures isa { (job : Asked) → IsRequest (map string_bytes words.now) job
-        → job.mode ≡ mode.Isa → HasReport result.fault
-        → RunsItsImage job (port I.left I.faults input.old input.new)
-        (port O.held O.faults output.old output.new) result }
-    ensures machine { (job : Asked) → IsRequest (map string_bytes words.now) job
-        → RunsMachine job.mode → HasReport result.fault
-        → RunsItsMachine workers.Alone job (port I.left I.faults input.old input.new)
-        (port O.held O.faults output.old output.new) result }
-    ensures lamp { (job : Asked) → IsRequest (map string_bytes words.now) job
-        → job.mode ≡ mode.Lamp → HasReport result.fault
-        → RunsTheLamp workers.Alone job (port I.left I.faults input.old input.new)
+    ensures runs { RunsRightly workers.Alone (map string_bytes words.now)
+        (port I.left I.faults input.old input.new)
         (port O.held O.faults output.old output.new) result }
 {
     let finish = |_: Global, machine: Machine, workers: u8, seed: u32|
@@ -99,17 +87,8 @@ pub fn bulb<R: Threads + Wait + Sync, I: Source, O: Sink, G: Gate + Sync>(
         (port I.left I.faults input.old input.new)
         (port O.held O.faults output.old output.new) result }
     ensures unread { ¬ (AskForInput (map string_bytes words.now)) → input.new ≡ input.old }
-    ensures isa { (job : Asked) → IsRequest (map string_bytes words.now) job
-        → job.mode ≡ mode.Isa → HasReport result.fault
-        → RunsItsImage job (port I.left I.faults input.old input.new)
-        (port O.held O.faults output.old output.new) result }
-    ensures machine { (job : Asked) → IsRequest (map string_bytes words.now) job
-        → RunsMachine job.mode → HasReport result.fault
-        → RunsItsMachine workers.AsAsked job (port I.left I.faults input.old input.new)
-        (port O.held O.faults output.old output.new) result }
-    ensures lamp { (job : Asked) → IsRequest (map string_bytes words.now) job
-        → job.mode ≡ mode.Lamp → HasReport result.fault
-        → RunsTheLamp workers.AsAsked job (port I.left I.faults input.old input.new)
+    ensures runs { RunsRightly workers.AsAsked (map string_bytes words.now)
+        (port I.left I.faults input.old input.new)
         (port O.held O.faults output.old output.new) result }
 {
     let finish = |alloc: Global, machine: Machine, workers: u8, seed: u32|
@@ -137,17 +116,8 @@ fn call<F: Fn(Global, Machine, u8, u32) -> Result<Machine, AllocError>, I: Sourc
         (port I.left I.faults input.old input.new)
         (port O.held O.faults output.old output.new) result }
     ensures unread { ¬ (AskForInput (map string_bytes words.now)) → input.new ≡ input.old }
-    ensures isa { (job : Asked) → IsRequest (map string_bytes words.now) job
-        → job.mode ≡ mode.Isa → HasReport result.fault
-        → RunsItsImage job (port I.left I.faults input.old input.new)
-        (port O.held O.faults output.old output.new) result }
-    ensures machine { (job : Asked) → IsRequest (map string_bytes words.now) job
-        → RunsMachine job.mode → HasReport result.fault
-        → RunsItsMachine crew.now.workers job (port I.left I.faults input.old input.new)
-        (port O.held O.faults output.old output.new) result }
-    ensures lamp { (job : Asked) → IsRequest (map string_bytes words.now) job
-        → job.mode ≡ mode.Lamp → HasReport result.fault
-        → RunsTheLamp crew.now.workers job (port I.left I.faults input.old input.new)
+    ensures runs { RunsRightly crew.now.workers (map string_bytes words.now)
+        (port I.left I.faults input.old input.new)
         (port O.held O.faults output.old output.new) result }
 {
     // What holds of every legal log, whoever made it.
@@ -170,7 +140,7 @@ fn write_report<O: Sink>(output: &mut O, shown: Shown) -> Ended
     let Shown { report, log, image } = shown;
     let (status, fault) = match write_all(output, &report) {
         Ok(()) => (0, None),
-        Err(_) => (status(&Fault::Write), Some(Fault::Write)),
+        Err(_) => (Fault::Write.status(), Some(Fault::Write)),
     };
     Ended {
         status,
@@ -215,27 +185,10 @@ fn write_line<O: Sink>(alloc: Global, output: &mut O, line: &[u8], refused: Refu
     let _ = write_all(output, line);
     let Refused { fault, image } = refused;
     Ended {
-        status: status(&fault),
+        status: fault.status(),
         log: Vec::new(alloc),
         image,
         fault: Some(fault),
-    }
-}
-
-// The status of a fault.
-fn status(fault: &Fault) -> u8
-    ensures { result ≡ status_of (Some fault.now) }
-{
-    match fault {
-        Fault::Usage => 1,
-        Fault::Text(_) => 2,
-        Fault::Check(_) => 3,
-        Fault::Limit(_) => 4,
-        Fault::Form(_) => 5,
-        Fault::Read => 6,
-        Fault::Write => 7,
-        Fault::TooLong => 8,
-        Fault::Memory => 9,
     }
 }
 
@@ -258,40 +211,27 @@ fn prepare<F: Fn(Global, Machine, u8, u32) -> Result<Machine, AllocError>, I: So
         → I.faults input.new ≡ I.faults input.old) }
     ensures source { I.faults input.old ≤ I.faults input.new }
 {
-    let job = match request_of(alloc, words) {
-        Ok(job) => job,
-        Err(JobError::Usage) => return Err(Refused::without_image(Fault::Usage)),
-        Err(JobError::Memory) => return Err(Refused::without_image(Fault::Memory)),
-    };
-    let bytes = match input_of(alloc, &job, input) {
-        Ok(bytes) => bytes,
-        Err(ReadAllFault::Read) => return Err(Refused::without_image(Fault::Read)),
-        Err(ReadAllFault::TooLong) => return Err(Refused::without_image(Fault::TooLong)),
-        Err(ReadAllFault::Memory) => return Err(Refused::without_image(Fault::Memory)),
-    };
+    let job = request_of(alloc, words)?;
+    let bytes = input_of(alloc, &job, input)?;
     answer_to(alloc, crew, &job, &bytes)
 }
 
 // The input of a job; nothing is read where it has none.
-fn input_of<I: Source>(alloc: Global, job: &Job, input: &mut I) -> Result<Vec<u8>, ReadAllFault>
+fn input_of<I: Source>(alloc: Global, job: &Job, input: &mut I) -> Result<Vec<u8>, Fault>
     ensures read { IfOk result (λ bytes. IsRead (reads job.now)
         (port I.left I.faults input.old input.new) bytes.items) }
     ensures unread { reads job.now ≡ false → input.new ≡ input.old }
     ensures asked { IfErr result (λ f. reads job.now ≡ true) }
     ensures within { IfOk result (λ bytes. length bytes.items ≤ most_input) }
-    ensures too_long { IsErrOf result ReadAllFault.TooLong
-        → ReadsMoreThan (I.left input.old) (I.left input.new) most_input }
-    ensures failed { IsErrOf result ReadAllFault.Read
-        → ReadFails (port I.left I.faults input.old input.new) }
-    ensures memory { IsErrOf result ReadAllFault.Memory
-        → ReadsUpTo (I.left input.old) (I.left input.new) most_input }
+    ensures refused { IfErr result
+        (LeavesUnread (port I.left I.faults input.old input.new)) }
     ensures steady { OnOk result (I.faults input.new ≡ I.faults input.old) }
-    ensures stays { IfErr result (λ f. f ≢ ReadAllFault.Read
+    ensures stays { IfErr result (λ f. f ≢ Fault.Read
         → I.faults input.new ≡ I.faults input.old) }
     ensures later { I.faults input.old ≤ I.faults input.new }
 {
     if !has_input(job) {
         return Ok(Vec::new(alloc));
     }
-    read_all(alloc, input, MOST_INPUT)
+    Ok(read_all(alloc, input, MOST_INPUT)?)
 }

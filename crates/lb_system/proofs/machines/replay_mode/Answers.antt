@@ -5,10 +5,11 @@ use Rattle.lb_sections.specs.Sections.{seen, part_at, section}
 use Rattle.lb_correctness.specs.Machines.{job_on}
 use Rattle.lb_machine.specs.Logs.{HaveWorkers, IsLegal}
 use Rattle.lb_machine.specs.Machines.{IsReplayOf}
+use Rattle.lb_machine.specs.Replays.{IsRightFault}
 use Rattle.lb_words.specs.declared.job.Mode.TheVariants as mode
 use Rattle.lb_system.specs.Views.{with_log}
 use Rattle.lb_system.specs.Questions.{Entries, Frames, InForm, Legal, SaysLog, Sections, checked}
-use Rattle.lb_system.specs.InternalAnswers.{IsModeRefusal, LeavesForm, RefusesLog, case_of}
+use Rattle.lb_system.specs.InternalAnswers.{IsModeRefusal, LeavesForm, case_of}
 use Rattle.lb_system.proofs.AskLemmas.{form_refused}
 use Rattle.lb_system.proofs.LogBounds.{said_script, said_within, said_workers}
 use Rattle.lb_system.proofs.MachineAnswers.{framed_holds, log_refused, replay_made}
@@ -56,7 +57,7 @@ returns-in-Err-clause-refused c =
     let list = ap (map seen) c.deref.ensures.value ∙ c.in_ok-program.ensures.list in
     let same : seen c.section_at.result ≡ section 2 c.args.input.now = c.section_at.ensures ∙ ap (part_at 2) list in
     let entries = subst (λ s. SaysLog s c.in_ok-log.log.items) same c.in_ok-log.ensures.read in
-    let refused = subst (λ log. RefusesLog (job_on c.in_ok-image.image c.in_ok-program.frames.items) log c.in-Err.fault) c.deref-2.ensures.value c.in-Err.ensures.refused in
+    let refused = subst (λ log. IsRightFault (job_on c.in_ok-image.image c.in_ok-program.frames.items) log c.in-Err.fault) c.deref-2.ensures.value c.in-Err.ensures.refused in
     subst (IsModeRefusal mode.Replay c.args.job.now c.args.input.now) (sym c.refused_log.ensures)
     (log_refused c.args.job.now c.args.input.now (program_of c.in_ok-program.program) c.in_ok-program.frames.items c.in_ok-log.log.items c.in_ok-image.image c.in-Err.fault
     c.in_ok-program.ensures.opened c.in_ok-program.ensures.frames entries c.in_ok-image.ensures refused)

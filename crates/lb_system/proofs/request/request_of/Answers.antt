@@ -1,16 +1,17 @@
-use Rattle.std.proofs.Common.{map}
-use Rattle.std.specs.Prelude.{string_bytes}
-use Rattle.std.proofs.lemmas.Result.{IfOk-weaker}
-use Rattle.lb_words.proofs.JobLemmas.{mode_exists, numbers_in_range}
+use Rattle.std.proofs.Common.{map, ap}
+use Rattle.std.specs.Prelude.{string_bytes, Err}
+use Rattle.std.proofs.lemmas.Result.{err_from_is_err_and}
+use Rattle.lb_words.proofs.JobLemmas.{numbers_in_range}
 use Rattle.lb_system.specs.Request.{modes}
+use Rattle.lb_system.proofs.RefusalLemmas.{words_left}
 use Rattle.lb_system.proofs.request.request_of.Goals as goal
-
-pub returns-clause-there : goal.returns-clause-there
-returns-clause-there c = IfOk-weaker c.job_of.result _ _ (λ job asked. mode_exists modes (map string_bytes c.args.words.now) job asked) c.job_of.ensures.asked
 
 pub returns-clause-range : goal.returns-clause-range
 returns-clause-range c =
-    IfOk-weaker c.job_of.result _ _
-    (λ job asked.
-    let r = numbers_in_range modes (map string_bytes c.args.words.now) job asked in
-    record { events = r.1; some = r.2; few = r.3 }) c.job_of.ensures.asked
+    let r = numbers_in_range modes (map string_bytes c.args.words.now) c.in_ok-job_of.field-0 c.in_ok-job_of.ensures.asked in
+    record { events = r.1; some = r.2; few = r.3 }
+
+pub returns-in_err-job_of-clause-refused : goal.returns-in_err-job_of-clause-refused
+returns-in_err-job_of-clause-refused c =
+    let p = err_from_is_err_and c.from_residual.result c.from_residual.ensures.1 in
+    rw (p.1, p.2) (words_left (map string_bytes c.args.words.now) c.in_err-job_of.field-0.0 (λ is. c.in_err-job_of.ensures.usage (ap (λ e. Err e) is)))
