@@ -1,8 +1,8 @@
 -- Two calls of the same words on the same bytes.
-use Rattle.std.proofs.Common.{◌≡◌, ◌<◌, ◌≤◌, Bool, true, false, List, [], ◌++◌, length, length-append, append-nil, arith, Option, Some, None, refl, sym, ap, ◌∙◌, subst, ◌⊎◌, ⊎_elim}
+use Rattle.std.proofs.Common.{◌≡◌, ◌<◌, ◌≤◌, Bool, true, false, List, [], length, length-append, arith, Option, Some, None, refl, sym, ap, ◌∙◌, subst, ◌⊎◌, ⊎_elim}
 use Rattle.std.specs.Prelude.{IfSome}
 use Rattle.std.specs.Io.KnownBytes.{Appends, Consumes}
-use Rattle.lb_ports.specs.Bytes.{ReadsAll, ReadsMoreThan}
+use Rattle.lb_ports.specs.Bytes.{ReadsMoreThan}
 use Rattle.lb_syntax.specs.Names.{Text}
 use Rattle.lb_image.specs.declared.image.Image.{Image}
 use Rattle.lb_words.specs.declared.job.Job.{Job}

@@ -1,8 +1,7 @@
-use Rattle.std.proofs.Common.{ap, sym, ◌∙◌}
+use Rattle.std.proofs.Common.{ap}
 use Rattle.std.specs.Prelude.{Err}
 use Rattle.std.proofs.lemmas.Result.{err_from_is_err_and}
 use Rattle.lb_system.specs.Answers.{port}
-use Rattle.lb_system.specs.Faults.{input_fault}
 use Rattle.lb_system.proofs.RefusalLemmas.{input_left}
 use Rattle.lb_system.proofs.top.input_of.Goals as goal
 
