@@ -1,9 +1,7 @@
--- The job that words ask for: there is one at most, of a mode that exists, with numbers in their ranges.
-use Rattle.std.proofs.Common.{◌≡◌, ℕ, suc, ◌≤◌, Bool, true, false, cond, List, [], ◌∷◌, Option, Some, None, codes, sym, ◌∙◌, refl, arith}
-use Rattle.std.specs.Prelude.{find, option_and_then, Contains}
-use Rattle.std.specs.Str.{bytes_eq}
-use Rattle.clap.specs.Words.{Text, first_of, matches_of}
-use Rattle.lb_words.specs.Words.{IsNumberOr, Asks, command, mode_named, name_of}
+-- The job that words ask for: there is one at most, with numbers in their ranges.
+use Rattle.std.proofs.Common.{◌≡◌, ℕ, ◌≤◌, List, Option, Some, None, sym, ◌∙◌, refl, arith}
+use Rattle.clap.specs.Words.{Text}
+use Rattle.lb_words.specs.Words.{IsNumberOr, Asks}
 use Rattle.lb_words.specs.declared.job.Job.{Job}
 use Rattle.lb_words.specs.declared.job.Mode.{Mode}
 
@@ -25,24 +23,6 @@ one_job modes words a b x y =
     let log : a.log ≡ b.log = x.found.log ∙ sym y.found.log in
     let trace : a.trace ≡ b.trace = x.found.trace ∙ sym y.found.trace in
     rw (mode, events, workers, seed, log, trace) refl
-
-found_inside : (p : Mode → Bool) (modes : List Mode) (m : Mode) → find p modes ≡ Some m → Contains modes m
-found_inside p [] m e = cc
-found_inside p (x ∷ xs) m e = go (p x) e (found_inside p xs m)
-  where
-    go : (b : Bool) → cond b (Some x) (find p xs) ≡ Some m → (find p xs ≡ Some m → Contains xs m) → Contains (x ∷ xs) m
-    go true e behind = (0, omega arith, some_one e)
-    go false e behind =
-        let there = behind e in
-        (suc there.0, omega (arith, there.1), there.2)
-
--- the job's mode is one of those that exist
-pub mode_exists : (modes : List Mode) (words : List Text) (job : Job) → Asks modes words job → Contains modes job.mode
-mode_exists modes words job asked = go (first_of (codes "mode") (matches_of command words)) asked.found.mode
-  where
-    go : (given : Option Text) → option_and_then (mode_named modes) given ≡ Some job.mode → Contains modes job.mode
-    go None e = cc
-    go (Some word) e = found_inside (λ mode. bytes_eq (name_of mode) word) modes job.mode e
 
 number_in_range : (least most missing : ℕ) (given : Option Text) (n : ℕ) → least ≤ missing → missing ≤ most
     → IsNumberOr least most missing given n → (least ≤ n) × (n ≤ most)
