@@ -1,7 +1,7 @@
-// Calls of the whole program, of which the status and the bytes alone are kept.
+// Calls of the whole program, and what they tell.
 use crate::ports::{SlowSink, SlowSource, Stop};
 use lb_system::{Ended, plain};
-use lb_testkit::call::{Call, call_plain, whole, words_of_line};
+use lb_testkit::call::{Call, told, told_by_plain, whole, words_of_line};
 use std::alloc::{AllocError, Global};
 
 /// What is asked for: the words behind the program's name, with a blank between them, and an input.
@@ -9,13 +9,6 @@ use std::alloc::{AllocError, Global};
 pub struct Asked<'a> {
     pub line: &'a str,
     pub input: &'a [u8],
-}
-
-/// What a call answered.
-#[derive(Debug, PartialEq, Eq, Drop)]
-pub struct Told {
-    pub status: u8,
-    pub written: Vec<u8>,
 }
 
 /// How the ports of a call are.
@@ -27,46 +20,32 @@ pub struct Ports {
     pub piece: usize,
 }
 
-/// What a call answered, and what its ports counted.
-#[derive(Debug, PartialEq, Eq, Drop)]
-pub struct Counted {
-    pub told: Told,
-    pub source_faults: u64,
-    pub source_late: u64,
-    pub sink_faults: u64,
-}
-
-/// The call with ports that take and give all at once, and never fail.
-pub fn ample(alloc: Global, asked: Asked<'_>) -> Result<Told, AllocError> {
+/// What the call tells with ports that take and give all at once, and never fail.
+pub fn ample(alloc: Global, asked: Asked<'_>) -> Result<String, AllocError> {
     let words = words_of_line(alloc, asked.line)?;
     let call = Call {
         room: 1_000_000,
         ..whole(&words, asked.input)
     };
-    let answer = call_plain(alloc, &call)?;
-    Ok(Told {
-        status: answer.status,
-        written: answer.written,
-    })
+    told_by_plain(alloc, &call)
 }
 
-/// The call with these ports.
-pub fn slow(alloc: Global, asked: Asked<'_>, ports: Ports) -> Result<Counted, AllocError> {
+/// What the call tells with these ports. Before it stands a line with what the ports counted: how often the source failed,
+/// how often it was asked from its stop on, and how often the sink failed.
+pub fn slow(alloc: Global, asked: Asked<'_>, ports: Ports) -> Result<String, AllocError> {
     let words = owned_words(alloc, asked.line)?;
     let mut source = SlowSource::new(asked.input, ports.source);
     let mut sink = SlowSink::new(alloc, ports.piece, ports.sink);
-    let status = status_of(&plain(alloc, &words, &mut source, &mut sink));
-    let written = Vec::from_slice(alloc, sink.held())?;
-    Ok(Counted {
-        told: Told { status, written },
-        source_faults: source.faults,
-        source_late: source.late,
-        sink_faults: sink.faults,
-    })
+    let ended = plain(alloc, &words, &mut source, &mut sink);
+    let told = told_by(alloc, &ended, &sink)?;
+    let (faults, late) = (source.faults, source.late);
+    let sink_faults = sink.faults;
+    format!(in alloc; "{faults} {late} {sink_faults}\n{told}")
 }
 
-fn status_of(ended: &Ended) -> u8 {
-    ended.status
+// What a call told that ended so.
+fn told_by(alloc: Global, ended: &Ended, sink: &SlowSink) -> Result<String, AllocError> {
+    told(alloc, ended.status, ended.image.is_some(), sink.held())
 }
 
 // The words behind the program's name, as the program gets them.

@@ -1,80 +1,116 @@
 // All bytes of a source, and all bytes into a sink, with ports that stop at each byte.
 use crate::ports::{AtStop, NEVER, SlowSink, SlowSource, Stop};
 use lb_ports::{ReadAllFault, WriteFault, read_all, write_all};
-use std::alloc::{AllocError, Global};
+use std::alloc::Global;
 use std::process::Abort;
-use std::test::Fail;
 
 static BYTES: &[u8] = b"fn init() { }\r\nfn loop() { }\n%%\n\0\xff";
 
-// A source that stops so at this byte: what is read, how often the source failed, and how often it was asked from its
-// stop on.
-fn read(alloc: Global, stop: Stop) -> (Result<Vec<u8>, ReadAllFault>, u64, u64) {
-    let mut source = SlowSource::new(BYTES, stop);
-    let answer = read_all(alloc, &mut source, 1000);
-    (answer, source.faults, source.late)
+// What was seen of a source: how many bytes were read and whether they are the first ones, or why none were; how often it
+// failed, and how often it was asked from its stop on.
+#[derive(Clone, Copy, Debug, PartialEq, Eq)]
+struct Read {
+    answer: Result<usize, ReadAllFault>,
+    is_front: bool,
+    faults: u64,
+    late: u64,
 }
 
-// A sink that takes so many bytes at a time and stops so: what is answered, what it holds, and how often it failed.
-fn write(
-    alloc: Global,
-    piece: usize,
-    stop: Stop,
-) -> Result<(Result<(), WriteFault>, Vec<u8>, u64), AllocError> {
+// Reads a source that stops so.
+fn read(alloc: Global, stop: Stop) -> Read {
+    let mut source = SlowSource::new(BYTES, stop);
+    let (answer, is_front) = match read_all(alloc, &mut source, 1000) {
+        Ok(bytes) => (Ok(bytes.len()), BYTES.starts_with(&bytes)),
+        Err(fault) => (Err(fault), false),
+    };
+    Read {
+        answer,
+        is_front,
+        faults: source.faults,
+        late: source.late,
+    }
+}
+
+// What was seen of a sink: what was answered, how many bytes it holds and whether they are the first ones, and how often
+// it failed.
+#[derive(Clone, Copy, Debug, PartialEq, Eq)]
+struct Written {
+    answer: Result<(), WriteFault>,
+    length: usize,
+    is_front: bool,
+    faults: u64,
+}
+
+// Writes to a sink that takes so many bytes at a time and stops so.
+fn write(alloc: Global, piece: usize, stop: Stop) -> Written {
     let mut sink = SlowSink::new(alloc, piece, stop);
     let answer = write_all(&mut sink, BYTES);
-    let held = Vec::from_slice(alloc, sink.held())?;
-    Ok((answer, held, sink.faults))
-}
-
-// Asserts that a sink which stops at this byte holds what goes before, and was asked once at its stop.
-fn expect_front(
-    rt: &impl Abort,
-    alloc: Global,
-    piece: usize,
-    stop: Stop,
-) -> Result<(), AllocError> {
-    let place = stop.place;
-    let (answer, held, faults) = write(alloc, piece, stop)?;
-    assert_eq!(rt; answer, Err(WriteFault), "at {place} by {piece}");
-    assert!(rt; BYTES.starts_with(&held), "at {place} by {piece}");
-    assert_eq!(rt; held.len(), place, "at {place} by {piece}");
-    assert_eq!(rt; faults, 1, "at {place} by {piece}");
-    Ok(())
+    Written {
+        answer,
+        length: sink.held().len(),
+        is_front: BYTES.starts_with(sink.held()),
+        faults: sink.faults,
+    }
 }
 
 #[test]
-fn reads_up_to_a_stop(rt: HostRuntime) -> Result<(), Fail> {
-    let (all, faults, late) = read(rt.alloc(), NEVER);
-    assert!(rt; all.is_ok_and(|all| all.as_slice() == BYTES));
-    assert_eq!(rt; (faults, late), (0, 0));
+fn reads_up_to_a_stop(rt: HostRuntime) {
+    let all = Read {
+        answer: Ok(BYTES.len()),
+        is_front: true,
+        faults: 0,
+        late: 0,
+    };
+    assert_eq!(rt; read(rt.alloc(), NEVER), all);
     for place in 0..BYTES.len() + 1 {
+        let failed = Read {
+            answer: Err(ReadAllFault::Read),
+            is_front: false,
+            faults: 1,
+            late: 1,
+        };
         let what = AtStop::Fails;
-        let (failed, faults, late) = read(rt.alloc(), Stop { place, what });
-        assert!(rt; matches!(failed, Err(ReadAllFault::Read)), "at {place}");
-        assert_eq!(rt; (faults, late), (1, 1), "at {place}");
-        let what = AtStop::Nothing;
-        let (front, faults, late) = read(rt.alloc(), Stop { place, what });
-        assert!(rt;
-            front.is_ok_and(|front| front.len() == place && BYTES.starts_with(&front)),
+        assert_eq!(rt;
+            read(rt.alloc(), Stop { place, what }),
+            failed,
             "at {place}"
         );
-        assert_eq!(rt; (faults, late), (0, 1), "at {place}");
+        let front = Read {
+            answer: Ok(place),
+            late: 1,
+            ..all
+        };
+        let what = AtStop::Nothing;
+        assert_eq!(rt; read(rt.alloc(), Stop { place, what }), front, "at {place}");
     }
-    Ok(())
+}
+
+// Asserts that a sink which stops at a byte holds what goes before, and was asked once at its stop.
+fn writes_front(rt: &impl Abort, alloc: Global, piece: usize, what: AtStop) {
+    for place in 0..BYTES.len() {
+        let front = Written {
+            answer: Err(WriteFault),
+            length: place,
+            is_front: true,
+            faults: 1,
+        };
+        let got = write(alloc, piece, Stop { place, what });
+        assert_eq!(rt; got, front, "at {place} by {piece}");
+    }
 }
 
 #[test]
-fn writes_up_to_a_stop(rt: HostRuntime) -> Result<(), Fail> {
+fn writes_up_to_a_stop(rt: HostRuntime) {
     for piece in [1usize, 2, 3, 7, 1000] {
-        let (answer, held, faults) = write(rt.alloc(), piece, NEVER)?;
-        assert_eq!(rt; (answer, faults), (Ok(()), 0), "by {piece}");
-        assert!(rt; held.as_slice() == BYTES, "by {piece}");
-        for place in 0..BYTES.len() {
-            for what in [AtStop::Fails, AtStop::Nothing] {
-                expect_front(&rt, rt.alloc(), piece, Stop { place, what })?;
-            }
+        let all = Written {
+            answer: Ok(()),
+            length: BYTES.len(),
+            is_front: true,
+            faults: 0,
+        };
+        assert_eq!(rt; write(rt.alloc(), piece, NEVER), all, "by {piece}");
+        for what in [AtStop::Fails, AtStop::Nothing] {
+            writes_front(&rt, rt.alloc(), piece, what);
         }
     }
-    Ok(())
 }

@@ -1,9 +1,11 @@
 // Programs at the limits, and one past each.
-use lb_testkit::call::{Call, ends, whole};
+use lb_testkit::call::{Call, told_by_plain, whole};
 use std::alloc::{AllocError, Global};
 use std::test::Fail;
 
 const CHECK: [&str; 2] = ["bulb", "check"];
+
+const TWO: &[u8] = b"fn init() { } fn loop() { }";
 
 // The text `before`, `many` times `part`, and the text `behind`.
 #[derive(Clone, Copy)]
@@ -26,8 +28,7 @@ fn append(text: &mut Vec<u8>, repeated: Repeated<'_>) -> Result<(), AllocError> 
 
 // `init`, `loop` and so many functions more.
 fn functions(alloc: Global, many: u32) -> Result<Vec<u8>, AllocError> {
-    let mut text = Vec::new(alloc);
-    text.extend_from_slice(b"fn init() { } fn loop() { }")?;
+    let mut text = Vec::from_slice(alloc, TWO)?;
     for k in 0..many {
         let function = format!(in alloc; " fn f{k}() {{ }}")?;
         text.extend_from_slice(function.as_bytes())?;
@@ -37,8 +38,7 @@ fn functions(alloc: Global, many: u32) -> Result<Vec<u8>, AllocError> {
 
 // A chain of 33 functions: the first 32 with frames of 2,032 bytes, the last with a block of so many bytes.
 fn chain(alloc: Global, last: u32) -> Result<Vec<u8>, AllocError> {
-    let mut text = Vec::new(alloc);
-    text.extend_from_slice(b"fn init() { } fn loop() { }")?;
+    let mut text = Vec::from_slice(alloc, TWO)?;
     for k in 0..32u32 {
         let next = k + 1;
         let function = format!(in alloc; " fn g{k}() {{ stackalloc 1892 as p {{ }} g{next}(); }}")?;
@@ -49,101 +49,45 @@ fn chain(alloc: Global, last: u32) -> Result<Vec<u8>, AllocError> {
     Ok(text)
 }
 
-// What `check` answers to a text is this status and this line.
-fn answers(alloc: Global, text: &[u8], status: u8, line: &str) -> Result<bool, AllocError> {
+// What `check` tells of a text.
+fn told(alloc: Global, text: &[u8]) -> Result<String, AllocError> {
     let call = Call {
         piece: 1_000_000,
         ..whole(&CHECK, text)
     };
-    ends(alloc, &call, status, line.as_bytes())
+    told_by_plain(alloc, &call)
 }
 
-// What it answers to one text behind another.
-fn answers_both(
+// What it tells of one text behind another.
+fn told_of_both(
     alloc: Global,
     first: Repeated<'_>,
     second: Repeated<'_>,
-    status: u8,
-    line: &str,
-) -> Result<bool, AllocError> {
+) -> Result<String, AllocError> {
     let mut text = Vec::new(alloc);
     append(&mut text, first)?;
     append(&mut text, second)?;
-    answers(alloc, &text, status, line)
+    told(alloc, &text)
 }
 
-// What it answers to one text.
-fn answers_one(
-    alloc: Global,
-    text: Repeated<'_>,
-    status: u8,
-    line: &str,
-) -> Result<bool, AllocError> {
-    let nothing = Repeated {
-        before: "",
-        part: "",
-        many: 0,
-        behind: "",
-    };
-    answers_both(alloc, text, nothing, status, line)
+// What it tells of `init`, `loop` and so many functions more.
+fn told_of_functions(alloc: Global, many: u32) -> Result<String, AllocError> {
+    told(alloc, &functions(alloc, many)?)
 }
 
-// What it answers to `init`, `loop` and so many functions more.
-fn answers_functions(alloc: Global, many: u32, status: u8, line: &str) -> Result<bool, AllocError> {
-    answers(alloc, &functions(alloc, many)?, status, line)
-}
-
-// What it answers to a chain whose last function has a block of so many bytes.
-fn answers_chain(alloc: Global, last: u32, status: u8, line: &str) -> Result<bool, AllocError> {
-    answers(alloc, &chain(alloc, last)?, status, line)
+// What it tells of a chain whose last function has a block of so many bytes.
+fn told_of_chain(alloc: Global, last: u32) -> Result<String, AllocError> {
+    told(alloc, &chain(alloc, last)?)
 }
 
 #[test]
 fn takes_256_functions(rt: HostRuntime) -> Result<(), Fail> {
-    for (many, status, line) in [
-        (254, 0, "ok functions 256 words 20496 stack 136\n"),
-        (255, 3, "check too-many-functions count 257\n"),
+    for (many, want) in [
+        (254, "0\nok functions 256 words 20496 stack 136\n"),
+        (255, "3\ncheck too-many-functions count 257\n"),
     ] {
-        assert!(rt;
-            answers_functions(rt.alloc(), many, status, line)?,
-            "of {many}"
-        );
-    }
-    Ok(())
-}
-
-// However long a branch is: 16 + 80 + 80 + 14 + 14 + 125 * 8 = 1,204 words, and 8 more with one `skip` more.
-#[test]
-fn takes_branches_over_4080_bytes(rt: HostRuntime) -> Result<(), Fail> {
-    for (many, line) in [
-        (125, "ok functions 2 words 1204 stack 144\n"),
-        (126, "ok functions 2 words 1212 stack 144\n"),
-    ] {
-        let text = Repeated {
-            before: "fn init() { while 1 { x = 1; ",
-            part: "skip; ",
-            many,
-            behind: "} } fn loop() { }",
-        };
-        assert!(rt; answers_one(rt.alloc(), text, 0, line)?, "of {many}");
-    }
-    Ok(())
-}
-
-// 16 + 80 + 80 + 4,074 * 8 = 32,768 words.
-#[test]
-fn takes_32768_words(rt: HostRuntime) -> Result<(), Fail> {
-    for (many, status, line) in [
-        (4074, 0, "ok functions 2 words 32768 stack 136\n"),
-        (4075, 4, "limit code-need words 32776\n"),
-    ] {
-        let text = Repeated {
-            before: "fn init() { ",
-            part: "skip; ",
-            many,
-            behind: "} fn loop() { }",
-        };
-        assert!(rt; answers_one(rt.alloc(), text, status, line)?, "of {many}");
+        let got = told_of_functions(rt.alloc(), many)?;
+        assert_eq!(rt; got.as_str(), want, "of {many}");
     }
     Ok(())
 }
@@ -151,16 +95,141 @@ fn takes_32768_words(rt: HostRuntime) -> Result<(), Fail> {
 // 32 * 2,032 + 372 + 4 * (1 + 34) = 65,536 bytes, and 16 + 160 + 32 * 96 + 88 words.
 #[test]
 fn takes_65536_bytes_of_stack(rt: HostRuntime) -> Result<(), Fail> {
-    for (last, status, line) in [
-        (372, 0, "ok functions 35 words 3336 stack 65536\n"),
-        (376, 4, "limit stack-need bytes 65540\n"),
+    for (last, want) in [
+        (372, "0\nok functions 35 words 3336 stack 65536\n"),
+        (376, "4\nlimit stack-need bytes 65540\n"),
     ] {
-        assert!(rt; answers_chain(rt.alloc(), last, status, line)?, "of {last}");
+        let got = told_of_chain(rt.alloc(), last)?;
+        assert_eq!(rt; got.as_str(), want, "of {last}");
     }
     Ok(())
 }
 
-// 16 bytes stand before the first of the brackets, of which the function's brace is one more.
+// Texts with one part that is repeated, and what is told of them.
+const ROWS: [(Repeated<'static>, &str); 11] = [
+    // However long a branch is: 16 + 80 + 80 + 14 + 14 + 125 * 8 = 1,204 words, and 8 more with one `skip` more.
+    (
+        Repeated {
+            before: "fn init() { while 1 { x = 1; ",
+            part: "skip; ",
+            many: 125,
+            behind: "} } fn loop() { }",
+        },
+        "0\nok functions 2 words 1204 stack 144\n",
+    ),
+    (
+        Repeated {
+            before: "fn init() { while 1 { x = 1; ",
+            part: "skip; ",
+            many: 126,
+            behind: "} } fn loop() { }",
+        },
+        "0\nok functions 2 words 1212 stack 144\n",
+    ),
+    // 16 + 80 + 80 + 4,074 * 8 = 32,768 words.
+    (
+        Repeated {
+            before: "fn init() { ",
+            part: "skip; ",
+            many: 4074,
+            behind: "} fn loop() { }",
+        },
+        "0\nok functions 2 words 32768 stack 136\n",
+    ),
+    (
+        Repeated {
+            before: "fn init() { ",
+            part: "skip; ",
+            many: 4075,
+            behind: "} fn loop() { }",
+        },
+        "4\nlimit code-need words 32776\n",
+    ),
+    // 16 bytes stand before the first of 64 brackets, of which the function's brace is one more.
+    (
+        Repeated {
+            before: "fn init() { x = ",
+            part: "(",
+            many: 64,
+            behind: "1",
+        },
+        "2\ntext at 79 too-deep\n",
+    ),
+    (
+        Repeated {
+            before: "fn init(){x=",
+            part: "(",
+            many: 64,
+            behind: "",
+        },
+        "2\ntext at 75 too-deep\n",
+    ),
+    // Names of 32 bytes, and one of 33.
+    (
+        Repeated {
+            before: "fn init() { } fn loop() { } fn ",
+            part: "a",
+            many: 32,
+            behind: "() { }",
+        },
+        "0\nok functions 3 words 256 stack 136\n",
+    ),
+    (
+        Repeated {
+            before: "fn ",
+            part: "a",
+            many: 33,
+            behind: "",
+        },
+        "2\ntext at 35 name-too-long\n",
+    ),
+    // 1,048,576 bytes, and one more. No text is read where it is too long.
+    (
+        Repeated {
+            before: "fn init() { } fn loop() { }",
+            part: " ",
+            many: 1_048_549,
+            behind: "",
+        },
+        "0\nok functions 2 words 176 stack 136\n",
+    ),
+    (
+        Repeated {
+            before: "fn init() { } fn loop() { }",
+            part: " ",
+            many: 1_048_550,
+            behind: "",
+        },
+        "8\ninput over 1048576 bytes\n",
+    ),
+    (
+        Repeated {
+            before: "(",
+            part: "(",
+            many: 1_048_576,
+            behind: "",
+        },
+        "8\ninput over 1048576 bytes\n",
+    ),
+];
+
+const NOTHING: Repeated<'static> = Repeated {
+    before: "",
+    part: "",
+    many: 0,
+    behind: "",
+};
+
+#[test]
+fn takes_texts_up_to_the_limits(rt: HostRuntime) -> Result<(), Fail> {
+    for (text, want) in ROWS {
+        let got = told_of_both(rt.alloc(), text, NOTHING)?;
+        assert_eq!(rt; got.as_str(), want);
+    }
+    Ok(())
+}
+
+// With the function's brace 64 brackets are open.
 #[test]
 fn takes_64_open_brackets(rt: HostRuntime) -> Result<(), Fail> {
     let opened = Repeated {
@@ -175,65 +244,7 @@ fn takes_64_open_brackets(rt: HostRuntime) -> Result<(), Fail> {
         many: 63,
         behind: "; } fn loop() { }",
     };
-    let needs = "ok functions 2 words 946 stack 396\n";
-    assert!(rt; answers_both(rt.alloc(), opened, closed, 0, needs)?);
-    let past = Repeated { many: 64, ..opened };
-    assert!(rt; answers_one(rt.alloc(), past, 2, "text at 79 too-deep\n")?);
-    let short = Repeated {
-        before: "fn init(){x=",
-        behind: "",
-        ..past
-    };
-    assert!(rt; answers_one(rt.alloc(), short, 2, "text at 75 too-deep\n")?);
-    Ok(())
-}
-
-#[test]
-fn takes_names_of_32_bytes(rt: HostRuntime) -> Result<(), Fail> {
-    let most = Repeated {
-        before: "fn init() { } fn loop() { } fn ",
-        part: "a",
-        many: 32,
-        behind: "() { }",
-    };
-    assert!(rt; answers_one(rt.alloc(), most, 0, "ok functions 3 words 256 stack 136\n")?);
-    let past = Repeated {
-        before: "fn ",
-        part: "a",
-        many: 33,
-        behind: "",
-    };
-    assert!(rt; answers_one(rt.alloc(), past, 2, "text at 35 name-too-long\n")?);
-    Ok(())
-}
-
-// No text is read where it is too long.
-#[test]
-fn takes_1048576_bytes(rt: HostRuntime) -> Result<(), Fail> {
-    for (before, part, many, status, line) in [
-        (
-            "fn init() { } fn loop() { }",
-            " ",
-            1_048_549u32,
-            0,
-            "ok functions 2 words 176 stack 136\n",
-        ),
-        (
-            "fn init() { } fn loop() { }",
-            " ",
-            1_048_550,
-            8,
-            "input over 1048576 bytes\n",
-        ),
-        ("(", "(", 1_048_576, 8, "input over 1048576 bytes\n"),
-    ] {
-        let text = Repeated {
-            before,
-            part,
-            many,
-            behind: "",
-        };
-        assert!(rt; answers_one(rt.alloc(), text, status, line)?, "of {many}");
-    }
+    let got = told_of_both(rt.alloc(), opened, closed)?;
+    assert_eq!(rt; got.as_str(), "0\nok functions 2 words 946 stack 396\n");
     Ok(())
 }

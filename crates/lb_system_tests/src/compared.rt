@@ -1,5 +1,5 @@
 // Programs beside the compiled code of them: the same events, one by one.
-use lb_testkit::beside::{Row, agrees};
+use lb_testkit::beside::{Row, disagreement};
 use lb_testkit::call::{call_plain, whole};
 use std::alloc::{AllocError, Global};
 use std::test::Fail;
@@ -112,22 +112,23 @@ const ROWS: [Row<'static>; 17] = [
 #[test]
 fn does_what_the_source_does(rt: HostRuntime) -> Result<(), Fail> {
     for row in &ROWS {
-        assert!(rt; agrees(rt.alloc(), row)?, "of {}", row.input);
+        let got = disagreement(rt.alloc(), row)?;
+        assert_eq!(rt; got.as_str(), "", "of {}", row.input);
     }
     Ok(())
 }
 
-// Whether a mode's run of a program that writes for ever is cut short, with a report that begins so.
-fn is_cut_short(alloc: Global, mode: &str, begins: &str) -> Result<bool, AllocError> {
+// Nothing where a mode's run of a program that writes for ever is cut short, with a report that begins so; else what it
+// told.
+fn told_otherwise(alloc: Global, mode: &str, begins: &str) -> Result<String, AllocError> {
     let words = ["bulb", mode, "--events", "1000", "--trace"];
     let input = b"fn init() { } fn loop() { MMIOWRITE(0x1001200C, 1); }";
     let a = call_plain(alloc, &whole(&words, input))?;
-    Ok(
-        a.status == 0
-            && a.written.starts_with(begins.as_bytes())
-            && a.written
-                .ends_with(b"\nst 1001200c 00000001\nst 1001200c 00000001\n"),
-    )
+    let is_cut_short = a.status == 0
+        && a.written.starts_with(begins.as_bytes())
+        && a.written
+            .ends_with(b"\nst 1001200c 00000001\nst 1001200c 00000001\n");
+    a.told_unless(alloc, is_cut_short)
 }
 
 #[test]
@@ -139,7 +140,8 @@ fn writes_for_ever(rt: HostRuntime) -> Result<(), Fail> {
         ),
         ("isa", "done 1000\nmmio "),
     ] {
-        assert!(rt; is_cut_short(rt.alloc(), mode, begins)?, "by {mode}");
+        let got = told_otherwise(rt.alloc(), mode, begins)?;
+        assert_eq!(rt; got.as_str(), "", "by {mode}");
     }
     Ok(())
 }

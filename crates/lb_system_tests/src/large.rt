@@ -1,8 +1,9 @@
 // The mode `gen`, and what other modes say of the same programs.
 use lb_gen::large_program;
-use lb_testkit::call::{Call, call_plain, whole, words_of_line};
+use lb_testkit::call::{Call, told_by_plain, whole, words_of_line};
 use lb_text::print_program;
 use std::alloc::{AllocError, Global};
+use std::process::Abort;
 use std::test::Fail;
 
 // The lines of every seed, as scripts/large works them out: what the program asks for, and the 64 events of which each numbered
@@ -21,107 +22,106 @@ const ROWS: [(&str, u32); 7] = [
     ("gen --seed 2654435769", 2_654_435_769),
 ];
 
-// Whether the words make the large program of the seed. The mode reads nothing, so no read can fail.
-fn makes(alloc: Global, line: &str, seed: u32) -> Result<bool, AllocError> {
+// What the words tell. The mode reads nothing, so no read can fail.
+fn told_of_line(alloc: Global, line: &str) -> Result<String, AllocError> {
     let words = words_of_line(alloc, line)?;
     let call = Call {
         read_fails: &[0],
         ..whole(&words, b"%%\n")
     };
-    let answer = call_plain(alloc, &call)?;
-    let expected = format!(in alloc; "seed {seed}\n{LINES}")?;
-    Ok(answer.is(0, expected.as_bytes()) && answer.has_image)
+    told_by_plain(alloc, &call)
+}
+
+// What is told of the large program of a seed.
+fn made(alloc: Global, seed: u32) -> Result<String, AllocError> {
+    format!(in alloc; "0 image\nseed {seed}\n{LINES}")
+}
+
+// Asserts that the words make the large program of the seed.
+fn makes(rt: &impl Abort, alloc: Global, line: &str, seed: u32) -> Result<(), AllocError> {
+    let want = made(alloc, seed)?;
+    let got = told_of_line(alloc, line)?;
+    assert_eq!(rt; got.as_str(), want.as_str(), "of {line}");
+    Ok(())
 }
 
 #[test]
 fn makes_large_programs(rt: HostRuntime) -> Result<(), Fail> {
     for (line, seed) in ROWS {
-        assert!(rt; makes(rt.alloc(), line, seed)?, "of {line}");
+        makes(&rt, rt.alloc(), line, seed)?;
     }
     Ok(())
 }
 
-// Whether a report that isn't written at all is told by the status, and the image shown.
-fn is_unwritten(alloc: Global) -> Result<bool, AllocError> {
+// A report that isn't written at all is told by the status, and the image shown.
+#[test]
+fn a_write_of_gen_fails(rt: HostRuntime) -> Result<(), Fail> {
     let call = Call {
         write_fails: &[0],
         ..whole(&["bulb", "gen"], b"")
     };
-    let answer = call_plain(alloc, &call)?;
-    Ok(answer.is(7, b"") && answer.has_image)
-}
-
-#[test]
-fn a_write_of_gen_fails(rt: HostRuntime) -> Result<(), Fail> {
-    assert!(rt; is_unwritten(rt.alloc())?);
+    let got = told_by_plain(rt.alloc(), &call)?;
+    assert_eq!(rt; got.as_str(), "7 image\n");
     Ok(())
 }
 
-// What the call with these words writes; nothing where its status isn't 0.
-fn written(alloc: Global, words: &[&str], input: &[u8]) -> Result<Vec<u8>, AllocError> {
-    let answer = call_plain(alloc, &whole(words, input))?;
-    if answer.status == 0 {
-        Ok(answer.written)
-    } else {
-        Ok(Vec::new(alloc))
-    }
+// What a text behind its beginning is; the whole text where it begins otherwise.
+fn behind<'a>(text: &'a str, begin: &str) -> &'a str {
+    text.strip_prefix(begin).unwrap_or(text)
 }
 
-// The 64 events of the text that `interp` shows; None where its report is another.
-fn events_of(alloc: Global, text: &[u8]) -> Result<Option<Vec<u8>>, AllocError> {
-    let words = ["bulb", "interp", "--trace", "--events", "4000"];
-    let report = written(alloc, &words, text)?;
-    match report.strip_prefix(b"mmio 64\nend spent\n".as_slice()) {
-        Some(events) => Ok(Some(Vec::from_slice(alloc, events)?)),
-        None => Ok(None),
-    }
+// What the words tell of a text.
+fn told_of_text(alloc: Global, line: &str, text: &[u8]) -> Result<String, AllocError> {
+    let words = words_of_line(alloc, line)?;
+    told_by_plain(alloc, &whole(&words, text))
 }
 
-// Whether the call with these words writes these lines, and then the events.
-fn shows(
+// Asserts that the words tell of a text what begins so, and then the events.
+fn tells(
+    rt: &impl Abort,
     alloc: Global,
-    words: &[&str],
-    input: &[u8],
-    lines: &str,
-    events: &[u8],
-) -> Result<bool, AllocError> {
-    let report = written(alloc, words, input)?;
-    Ok(match report.strip_prefix(lines.as_bytes()) {
-        Some(rest) => rest == events,
-        None => false,
-    })
+    line: &str,
+    text: &[u8],
+    want: (&str, &str),
+) -> Result<(), AllocError> {
+    let (begin, events) = want;
+    let got = told_of_text(alloc, line, text)?;
+    assert_eq!(rt; behind(&got, begin), events, "of {line}");
+    Ok(())
 }
 
-// Whether `gen` shows the events of the seed's program.
-fn gen_shows(alloc: Global, seed: u32, events: &[u8]) -> Result<bool, AllocError> {
-    let number = format!(in alloc; "{seed}")?;
-    let lines = format!(in alloc; "seed {seed}\n{LINES}")?;
-    let words = ["bulb", "gen", "--trace", "--seed", &number];
-    shows(alloc, &words, b"", &lines, events)
+// Asserts that `gen` shows the events of the seed's program.
+fn gen_tells(rt: &impl Abort, alloc: Global, seed: u32, events: &str) -> Result<(), AllocError> {
+    let line = format!(in alloc; "gen --trace --seed {seed}")?;
+    let begin = made(alloc, seed)?;
+    let got = told_of_line(alloc, &line)?;
+    assert_eq!(rt; behind(&got, &begin), events, "of {seed}");
+    Ok(())
 }
 
-// Whether `check` finds the needs of a large program in the text, and `isa` makes the events.
-fn does(alloc: Global, text: &[u8], events: &[u8]) -> Result<bool, AllocError> {
-    let needs = "ok functions 66 words 18232 stack 10640\n";
-    let checked = shows(alloc, &["bulb", "check"], text, needs, b"")?;
-    let words = ["bulb", "isa", "--trace", "--events", "30000"];
-    let lines = "done 30000\nmmio 64\nend running\n";
-    Ok(checked && shows(alloc, &words, text, lines, events)?)
+// Asserts that `check` finds the needs of a large program in the text, and `isa` makes the events.
+fn text_tells(rt: &impl Abort, alloc: Global, text: &[u8], events: &str) -> Result<(), AllocError> {
+    let needs = "0\nok functions 66 words 18232 stack 10640\n";
+    tells(rt, alloc, "check", text, (needs, ""))?;
+    let run = "0 image\ndone 30000\nmmio 64\nend running\n";
+    tells(rt, alloc, "isa --trace --events 30000", text, (run, events))
 }
 
-// Whether `check` finds the needs of a large program in the text, `interp` and `isa` make the same 64 events of it, and `gen`
-// shows those of `interp`.
-fn is_same(alloc: Global, seed: u32) -> Result<bool, AllocError> {
-    let text = print_program(alloc, &large_program(alloc, seed)?)?;
-    match events_of(alloc, &text)? {
-        Some(events) => Ok(does(alloc, &text, &events)? && gen_shows(alloc, seed, &events)?),
-        None => Ok(false),
-    }
+// The text of a seed's program.
+fn text_of(alloc: Global, seed: u32) -> Result<Vec<u8>, AllocError> {
+    print_program(alloc, &large_program(alloc, seed)?)
 }
 
+// `check` finds the needs of a large program in the text, `interp` and `isa` make the same 64 events of it, and `gen` shows
+// those of `interp`.
 #[test]
-fn texts_do_what_gen_shows(rt: HostRuntime) {
+fn texts_do_what_gen_shows(rt: HostRuntime) -> Result<(), Fail> {
     for seed in [7, 4_294_967_295] {
-        assert_eq!(rt; is_same(rt.alloc(), seed), Ok(true), "of {seed}");
+        let text = text_of(rt.alloc(), seed)?;
+        let told = told_of_text(rt.alloc(), "interp --trace --events 4000", &text)?;
+        let events = behind(&told, "0 image\nmmio 64\nend spent\n");
+        text_tells(&rt, rt.alloc(), &text, events)?;
+        gen_tells(&rt, rt.alloc(), seed, events)?;
     }
+    Ok(())
 }

@@ -3,6 +3,7 @@ use lb_gate_testkit::gates::Alternation;
 use lb_ports::OpenGate;
 use lb_testkit::call::{Answer, Call, call_bulb, call_plain, log_of_report, whole, words_of_line};
 use std::alloc::{AllocError, Global};
+use std::process::Abort;
 use std::sync::Wait;
 use std::test::Fail;
 use std::thread::Threads;
@@ -14,140 +15,121 @@ const WRITES: &str = "fn init() { } fn loop() { MMIOWRITE(0x1001200C, 1); }";
 const DIVIDES: &str =
     "fn init() { MMIOWRITE(0x1001200C, (7 / 0)); MMIOWRITE(0x1001200C, (7 % 0)); } fn loop() { }";
 
-// The words behind the program's name, an input, the status and what is written.
-const ROWS: [(&str, &str, u8, &str); 33] = [
+// The words behind the program's name, an input, and what is told: the status, whether there is an image, and what is
+// written.
+const ROWS: [(&str, &str, &str); 33] = [
     (
         "replay",
         "fn init() { } fn loop() { }\n%%\n%%\nF0B0D0",
-        0,
-        "events 3\ndone 0\nretired 0\nmmio 0\narrived 0\nlamp off\nend running\n",
+        "0 image\nevents 3\ndone 0\nretired 0\nmmio 0\narrived 0\nlamp off\nend running\n",
     ),
     (
         "replay --log --trace",
         "fn init() { } fn loop() { }\n%%\n%%\nF0\n\nB7D3\r\n",
-        0,
-        "events 3\ndone 0\nretired 0\nmmio 0\narrived 0\nlamp off\nend running\ntrace\nlog\nF0B7D3\n",
+        "0 image\nevents 3\ndone 0\nretired 0\nmmio 0\narrived 0\nlamp off\nend running\ntrace\nlog\nF0B7D3\n",
     ),
     (
         "replay --log",
         "fn init() { } fn loop() { }",
-        0,
-        "events 0\ndone 0\nretired 0\nmmio 0\narrived 0\nlamp off\nend running\nlog\n",
+        "0 image\nevents 0\ndone 0\nretired 0\nmmio 0\narrived 0\nlamp off\nend running\nlog\n",
     ),
     (
         "replay",
         "fn init() { } fn loop() { }\n%%\n%%\nD0",
-        5,
-        "event 0 guard false\n",
+        "5 image\nevent 0 guard false\n",
     ),
     (
         "replay",
         "fn init() { } fn loop() { }\n%%\n%%\nF0F0F0",
-        5,
-        "event 2 guard false\n",
+        "5 image\nevent 2 guard false\n",
     ),
     (
         "replay",
         "fn init() { } fn loop() { }\n%%\n%%\nA0",
-        5,
-        "event 0 guard false\n",
+        "5 image\nevent 0 guard false\n",
     ),
     (
         "replay",
         "fn init() { } fn loop() { }\n%%\n%%\nS0",
-        5,
-        "event 0 guard false\n",
+        "5 image\nevent 0 guard false\n",
     ),
     (
         "replay",
         "fn init() { } fn loop() { }\n%%\n%%\nF9",
-        5,
-        "line 4 malformed\n",
+        "5\nline 4 malformed\n",
     ),
     (
         "replay",
         "fn init() { } fn loop() { }\n%%\n0\n%%\nF9",
-        5,
-        "line 3 malformed\n",
+        "5\nline 3 malformed\n",
     ),
     (
         "replay",
         "fn init() { } fn loop() { }\n%%\n%%\n%%\n",
-        5,
-        "section line 4\n",
+        "5\nsection line 4\n",
     ),
     (
         "run",
         "fn init() { } fn loop() { }\n%%\n%%\n",
-        5,
-        "section line 3\n",
+        "5\nsection line 3\n",
     ),
     (
         "run",
         "fn init() { } fn loop() { }\n%%\nffg0\n",
-        5,
-        "line 3 malformed\n",
+        "5\nline 3 malformed\n",
     ),
     (
         "run",
         "fn init() { } fn loop() { }\n%%\nabc\n",
-        5,
-        "line 3 malformed\n",
+        "5\nline 3 malformed\n",
     ),
     (
         "run",
         "fn init() { } fn loop() { }\n%%\n00\n%%\n",
-        5,
-        "section line 4\n",
+        "5\nsection line 4\n",
     ),
-    ("run", "fn 1\n%%\nabc\n", 2, "text at 3 unexpected\n"),
-    ("run", "fn init() {\n%%\nffg0\n", 2, "text at 12 ended\n"),
-    ("run", "fn init() { }\n%%\nffg0\n", 3, "check no-loop\n"),
-    ("lamp", "ff\n%%\n", 5, "section line 2\n"),
-    ("lamp", "ff\n!\n", 5, "line 2 malformed\n"),
-    ("judge", "ld 0\n%%\n", 5, "section line 2\n"),
-    ("judge", "\nld 0\n", 5, "line 2 malformed\n"),
-    ("judge", "", 0, "prefix rounds 0\n"),
+    ("run", "fn 1\n%%\nabc\n", "2\ntext at 3 unexpected\n"),
+    ("run", "fn init() {\n%%\nffg0\n", "2\ntext at 12 ended\n"),
+    ("run", "fn init() { }\n%%\nffg0\n", "3\ncheck no-loop\n"),
+    ("lamp", "ff\n%%\n", "5\nsection line 2\n"),
+    ("lamp", "ff\n!\n", "5\nline 2 malformed\n"),
+    ("judge", "ld 0\n%%\n", "5\nsection line 2\n"),
+    ("judge", "\nld 0\n", "5\nline 2 malformed\n"),
+    ("judge", "", "0\nprefix rounds 0\n"),
     (
         "judge",
         "st 10012038 0000003c\nst 10012008 00800000\nst 10024018 00000002\nld 10024048 00000000\nst 10024048 0000000b\n",
-        0,
-        "prefix rounds 0\n",
+        "0\nprefix rounds 0\n",
     ),
     (
         "judge --log --trace",
         "st 10012038 0000003c\nst 10012008 00800000\nst 10024018 00000002\nld 10024048 00000000\nst 10024048 0000000c\n",
-        0,
-        "leaves at 4\n",
+        "0\nleaves at 4\n",
     ),
     (
         "judge",
         "st 10012038 0000003d\nst 10012008 00800000\n",
-        0,
-        "leaves at 0\n",
+        "0\nleaves at 0\n",
     ),
-    ("judge", "ST 10012038 0000003c", 5, "line 1 malformed\n"),
-    ("check", EMPTY, 0, "ok functions 2 words 176 stack 136\n"),
-    ("check", "", 3, "check no-init\n"),
-    ("check", WRITES, 0, "ok functions 2 words 204 stack 140\n"),
-    ("check", DIVIDES, 0, "ok functions 2 words 256 stack 144\n"),
+    ("judge", "ST 10012038 0000003c", "5\nline 1 malformed\n"),
+    ("check", EMPTY, "0\nok functions 2 words 176 stack 136\n"),
+    ("check", "", "3\ncheck no-init\n"),
+    ("check", WRITES, "0\nok functions 2 words 204 stack 140\n"),
+    ("check", DIVIDES, "0\nok functions 2 words 256 stack 144\n"),
     (
         "interp --events 3 --trace",
         WRITES,
-        0,
-        "mmio 2\nend spent\ntrace\nst 1001200c 00000001\nst 1001200c 00000001\n",
+        "0 image\nmmio 2\nend spent\ntrace\nst 1001200c 00000001\nst 1001200c 00000001\n",
     ),
     (
         "interp --events 1 --trace",
         DIVIDES,
-        0,
-        "mmio 2\nend spent\ntrace\nst 1001200c ffffffff\nst 1001200c 00000007\n",
+        "0 image\nmmio 2\nend spent\ntrace\nst 1001200c ffffffff\nst 1001200c 00000007\n",
     ),
     (
         "isa --events 100000",
         DIVIDES,
-        0,
-        "done 100000\nmmio 2\nend running\n",
+        "0 image\ndone 100000\nmmio 2\nend running\n",
     ),
 ];
 
@@ -165,21 +147,14 @@ const TCP: &str =
 const OFF: &str =
     "ffffffffffff02000000000108004500001d00000000401100000a0000010a0000021000100100090000000000000000000000000000000000000000\n";
 
-// A source that compiles to code which halts the machine, and the cause.
-const HALTING: [(&str, &str); 3] = [
-    (
-        "fn init() { x = MMIOREAD(0x90000000); } fn loop() { }",
-        "end halted bad-access",
-    ),
-    (
-        "fn init() { MMIOWRITE(1, 2); } fn loop() { }",
-        "end halted store-to-code",
-    ),
-    (
-        "fn init() { g(); } fn loop() { } fn g() { stackalloc 256 as q { f(); } } fn f() { stackalloc 4 as p { i = 0; q = (p - 64); while (i < 128) { store4((q + i), 2); i = (i + 4); } } }",
-        "end halted bad-pc",
-    ),
-];
+// Sources that compile to code which halts the machine: by a read where there is nothing, by a write to the code, and by a
+// return to where there is no code, since the return address was written over.
+const READS_NOTHING: &str = "fn init() { x = MMIOREAD(0x90000000); } fn loop() { }";
+
+const WRITES_CODE: &str = "fn init() { MMIOWRITE(1, 2); } fn loop() { }";
+
+const RETURNS_ASTRAY: &str =
+    "fn init() { g(); } fn loop() { } fn g() { stackalloc 256 as q { f(); } } fn f() { stackalloc 4 as p { i = 0; q = (p - 64); while (i < 128) { store4((q + i), 2); i = (i + 4); } } }";
 
 const REPLAY: [&str; 4] = ["bulb", "replay", "--log", "--trace"];
 
@@ -208,18 +183,20 @@ fn by_bulb<R: Threads + Wait + Sync>(
     call_bulb(rt, alloc, &call_of(&words, input), &OpenGate)
 }
 
-// Whether both answer so.
-fn both_are<R: Threads + Wait + Sync>(
+// What both tell; where they differ, one behind the other.
+fn told_by_both<R: Threads + Wait + Sync>(
     rt: &R,
     alloc: Global,
     line: &str,
     input: &str,
-    want: (u8, &str),
-) -> Result<bool, AllocError> {
-    let (status, written) = want;
-    let plain = by_plain(alloc, line, input.as_bytes())?.is(status, written.as_bytes());
-    let raced = by_bulb(rt, alloc, line, input.as_bytes())?.is(status, written.as_bytes());
-    Ok(plain && raced)
+) -> Result<String, AllocError> {
+    let plain = by_plain(alloc, line, input.as_bytes())?.told(alloc)?;
+    let raced = by_bulb(rt, alloc, line, input.as_bytes())?.told(alloc)?;
+    if plain == raced {
+        Ok(plain)
+    } else {
+        format!(in alloc; "plain {plain}\nbulb {raced}")
+    }
 }
 
 // Whether a report has this line.
@@ -246,18 +223,27 @@ fn number_of(report: &[u8], word: &str) -> u32 {
 
 #[test]
 fn answers_rows(rt: HostRuntime) -> Result<(), Fail> {
-    for (line, input, status, written) in ROWS {
-        assert!(rt;
-            both_are(&rt, rt.alloc(), line, input, (status, written))?,
-            "of {line} {input}"
-        );
+    for (line, input, want) in ROWS {
+        let got = told_by_both(&rt, rt.alloc(), line, input)?;
+        assert_eq!(rt; got.as_str(), want, "of {line} {input}");
     }
     Ok(())
 }
 
-const SHORT_RUN: &str = "run --events 1000";
-
-const LONG_RUN: &str = "run --events 20000 --trace";
+// What an answer has to be.
+#[derive(Clone, Copy, Debug, PartialEq, Eq)]
+enum Wanted<'a> {
+    /// A run of 1,000 entries without an access.
+    Nothing,
+    /// A long run that stores 1 at the pins, at least twice, and does nothing else there.
+    Ones,
+    /// A long run that stores two quotients at the pins.
+    Quotients,
+    /// A run that ends so, with fewer entries than it may have.
+    Halted(&'a str),
+    /// A run of the lamp whose report has these lines.
+    Lit(&'a [&'a str]),
+}
 
 // Whether it is a run of 1,000 entries without an access.
 fn does_nothing(a: &Answer) -> bool {
@@ -290,31 +276,101 @@ fn stores_quotients(a: &Answer) -> bool {
         )
 }
 
-// Whether `plain` runs the three programs so.
-fn plain_runs(alloc: Global) -> Result<bool, AllocError> {
-    let nothing = does_nothing(&by_plain(alloc, SHORT_RUN, EMPTY.as_bytes())?);
-    let ones = stores_ones(alloc, &by_plain(alloc, LONG_RUN, WRITES.as_bytes())?)?;
-    let quotients = stores_quotients(&by_plain(alloc, LONG_RUN, DIVIDES.as_bytes())?);
-    Ok(nothing && ones && quotients)
+// Whether it is a run that ends so, with fewer entries than it may have.
+fn is_halted(a: &Answer, end: &str) -> bool {
+    a.status == 0
+        && has_line(&a.written, end)
+        && number_of(&a.written, "events ") as usize == a.entries
+        && 1 <= a.entries
+        && a.entries < 20_000
 }
 
-// Whether `bulb` does.
-fn bulb_runs<R: Threads + Wait + Sync>(rt: &R, alloc: Global) -> Result<bool, AllocError> {
-    let nothing = does_nothing(&by_bulb(rt, alloc, SHORT_RUN, EMPTY.as_bytes())?);
-    let ones = stores_ones(alloc, &by_bulb(rt, alloc, LONG_RUN, WRITES.as_bytes())?)?;
-    let quotients = stores_quotients(&by_bulb(rt, alloc, LONG_RUN, DIVIDES.as_bytes())?);
-    Ok(nothing && ones && quotients)
+// Whether the lamp's report has these lines.
+fn is_lit(a: &Answer, lines: &[&str]) -> bool {
+    a.status == 0
+        && a.has_image
+        && has_line(&a.written, "end running")
+        && lines.iter().all(|line| has_line(&a.written, line))
 }
+
+// Nothing where the answer is as wanted, else what was told.
+fn told_unless(alloc: Global, a: &Answer, wanted: Wanted<'_>) -> Result<String, AllocError> {
+    let is_right = match wanted {
+        Wanted::Nothing => does_nothing(a),
+        Wanted::Ones => stores_ones(alloc, a)?,
+        Wanted::Quotients => stores_quotients(a),
+        Wanted::Halted(end) => is_halted(a, end),
+        Wanted::Lit(lines) => is_lit(a, lines),
+    };
+    a.told_unless(alloc, is_right)
+}
+
+// Nothing where `plain` answers as wanted, else what it told.
+fn by_plain_unless(
+    alloc: Global,
+    line: &str,
+    input: &str,
+    wanted: Wanted<'_>,
+) -> Result<String, AllocError> {
+    told_unless(alloc, &by_plain(alloc, line, input.as_bytes())?, wanted)
+}
+
+// Nothing where `bulb` answers as wanted, else what it told.
+fn by_bulb_unless<R: Threads + Wait + Sync>(
+    rt: &R,
+    alloc: Global,
+    line: &str,
+    input: &str,
+    wanted: Wanted<'_>,
+) -> Result<String, AllocError> {
+    told_unless(alloc, &by_bulb(rt, alloc, line, input.as_bytes())?, wanted)
+}
+
+// Nothing where both answer as wanted, else what was told otherwise.
+fn by_both_unless<R: Threads + Wait + Sync>(
+    rt: &R,
+    alloc: Global,
+    line: &str,
+    input: &str,
+    wanted: Wanted<'_>,
+) -> Result<String, AllocError> {
+    let mut told = by_plain_unless(alloc, line, input, wanted)?;
+    told.push_str(&by_bulb_unless(rt, alloc, line, input, wanted)?)?;
+    Ok(told)
+}
+
+const RUNS: [(&str, &str, Wanted<'static>); 6] = [
+    ("run --events 1000", EMPTY, Wanted::Nothing),
+    ("run --events 20000 --trace", WRITES, Wanted::Ones),
+    ("run --events 20000 --trace", DIVIDES, Wanted::Quotients),
+    (
+        "run --events 20000",
+        READS_NOTHING,
+        Wanted::Halted("end halted bad-access"),
+    ),
+    (
+        "run --events 20000",
+        WRITES_CODE,
+        Wanted::Halted("end halted store-to-code"),
+    ),
+    (
+        "run --events 20000",
+        RETURNS_ASTRAY,
+        Wanted::Halted("end halted bad-pc"),
+    ),
+];
 
 #[test]
 fn runs_programs(rt: HostRuntime) -> Result<(), Fail> {
-    assert!(rt; plain_runs(rt.alloc())?);
-    assert!(rt; bulb_runs(&rt, rt.alloc())?);
+    for (line, input, wanted) in RUNS {
+        let got = by_both_unless(&rt, rt.alloc(), line, input, wanted)?;
+        assert_eq!(rt; got.as_str(), "", "of {line} {input}");
+    }
     Ok(())
 }
 
 // What is told of a race: its status, and how many entries its log has, of all workers, of worker 0 and of worker 1.
-#[derive(Clone, Copy)]
+#[derive(Clone, Copy, Debug)]
 struct Shares {
     status: u8,
     entries: usize,
@@ -344,39 +400,39 @@ fn two_workers_race(rt: HostRuntime) -> Result<(), Fail> {
     let gate = Alternation::new();
     let shares = race(&rt, rt.alloc(), &gate)?;
     assert!(rt; gate.held_both());
-    assert_eq!(rt; shares.status, 0);
-    assert!(rt; shares.of_first > 0);
-    assert!(rt; shares.of_second > 0);
-    assert_eq!(rt; shares.entries, 1000);
-    assert_eq!(rt; shares.of_first.saturating_add(shares.of_second), 1000);
+    assert_eq!(rt; (shares.status, shares.entries), (0, 1000));
+    assert!(rt; 0 < shares.of_first && 0 < shares.of_second, "{shares:?}");
+    assert_eq!(rt;
+        shares.of_first.saturating_add(shares.of_second),
+        1000,
+        "{shares:?}"
+    );
     Ok(())
 }
 
-// Whether both calls do the same without a frame, and with one.
-fn both_are_alike<R: Threads + Wait + Sync>(
+// Nothing where both tell the same of a run, in which no frame arrives; else what they tell.
+fn told_unless_alike<R: Threads + Wait + Sync>(
     rt: &R,
     alloc: Global,
     line: &str,
-) -> Result<bool, AllocError> {
-    let with_frame = format!(in alloc; "{EMPTY}\n%%\n{ON}")?;
-    let alone = are_alike(rt, alloc, line, EMPTY.as_bytes())?;
-    Ok(alone && are_alike(rt, alloc, line, with_frame.as_bytes())?)
+    input: &str,
+) -> Result<String, AllocError> {
+    let told = told_by_both(rt, alloc, line, input)?;
+    if told.starts_with("0 image\n") && has_line(told.as_bytes(), "arrived 0") {
+        Ok(String::new(alloc))
+    } else {
+        Ok(told)
+    }
 }
 
-// Whether both calls do the same, and no frame arrives.
-fn are_alike<R: Threads + Wait + Sync>(
+// The same, where a frame waits.
+fn told_unless_alike_with_frame<R: Threads + Wait + Sync>(
     rt: &R,
     alloc: Global,
     line: &str,
-    input: &[u8],
-) -> Result<bool, AllocError> {
-    let plain = by_plain(alloc, line, input)?;
-    let raced = by_bulb(rt, alloc, line, input)?;
-    Ok(
-        plain.status == 0
-            && has_line(&plain.written, "arrived 0")
-            && raced.is(0, plain.written.as_slice()),
-    )
+) -> Result<String, AllocError> {
+    let input = format!(in alloc; "{EMPTY}\n%%\n{ON}")?;
+    told_unless_alike(rt, alloc, line, &input)
 }
 
 // Frames don't arrive while nobody listens; with one worker both calls do the same.
@@ -386,30 +442,49 @@ fn runs_alike_by_one_worker(rt: HostRuntime) -> Result<(), Fail> {
         "run --events 5000 --workers 1 --log",
         "run --events 5000 --workers 1 --seed 9 --log --trace",
     ] {
-        assert!(rt; both_are_alike(&rt, rt.alloc(), line)?, "of {line}");
+        let got = told_unless_alike(&rt, rt.alloc(), line, EMPTY)?;
+        assert_eq!(rt; got.as_str(), "", "of {line}");
+        let got = told_unless_alike_with_frame(&rt, rt.alloc(), line)?;
+        assert_eq!(rt; got.as_str(), "", "of {line} with a frame");
     }
     Ok(())
 }
 
-// Whether the replay of what a run of the source printed is the same report.
-fn is_replayed(alloc: Global, source: &str, a: &Answer) -> Result<bool, AllocError> {
+// Nothing where the replay of what a run of the source printed is the same report; else what it told.
+fn replay_unless(alloc: Global, source: &str, a: &Answer) -> Result<String, AllocError> {
     let mut input = Vec::from_slice(alloc, source.as_bytes())?;
     input.extend_from_slice(b"\n%%\n%%\n")?;
     input.extend_from_slice(log_of_report(&a.written))?;
     let again = call_plain(alloc, &call_of(&REPLAY, &input))?;
-    Ok(again.is(0, a.written.as_slice()) && again.entries == a.entries)
+    let is_same = again.status == 0 && again.written == a.written && again.entries == a.entries;
+    again.told_unless(alloc, is_same)
 }
 
-// Whether what both calls run is replayed.
-fn are_replayed<R: Threads + Wait + Sync>(
+// Nothing where what both calls run is replayed; else what a replay told.
+fn replays_unless<R: Threads + Wait + Sync>(
     rt: &R,
     alloc: Global,
     source: &str,
     run: &str,
-) -> Result<bool, AllocError> {
-    let plain = is_replayed(alloc, source, &by_plain(alloc, run, source.as_bytes())?)?;
-    let raced = is_replayed(alloc, source, &by_bulb(rt, alloc, run, source.as_bytes())?)?;
-    Ok(plain && raced)
+) -> Result<String, AllocError> {
+    let input = source.as_bytes();
+    let mut told = replay_unless(alloc, source, &by_plain(alloc, run, input)?)?;
+    told.push_str(&replay_unless(alloc, source, &by_bulb(rt, alloc, run, input)?)?)?;
+    Ok(told)
+}
+
+// Asserts that these runs of the sources are replayed.
+fn replays(
+    rt: &(impl Abort + Threads + Wait + Sync),
+    alloc: Global,
+    run: &str,
+    sources: &[&str],
+) -> Result<(), AllocError> {
+    for source in sources {
+        let got = replays_unless(rt, alloc, source, run)?;
+        assert_eq!(rt; got.as_str(), "", "of {run} {source}");
+    }
+    Ok(())
 }
 
 #[test]
@@ -424,95 +499,55 @@ fn replays_what_was_run(rt: HostRuntime) -> Result<(), Fail> {
         "run --log --trace --events 100",
         "run --log --trace --events 5000",
     ] {
-        assert!(rt; are_replayed(&rt, rt.alloc(), EMPTY, run)?, "of {run}");
-        assert!(rt; are_replayed(&rt, rt.alloc(), WRITES, run)?, "of {run}");
+        replays(&rt, rt.alloc(), run, &[EMPTY, WRITES])?;
     }
+    let halting = [READS_NOTHING, WRITES_CODE, RETURNS_ASTRAY];
+    replays(
+        &rt,
+        rt.alloc(),
+        "run --log --trace --events 20000",
+        &halting,
+    )?;
     Ok(())
 }
 
-// Whether it is a run that ends so, with fewer entries than it may have.
-fn is_halted(a: &Answer, end: &str) -> bool {
-    a.status == 0
-        && has_line(&a.written, end)
-        && number_of(&a.written, "events ") as usize == a.entries
-        && 1 <= a.entries
-        && a.entries < 20_000
-}
+// The words behind the program's name, the frames that arrive, and lines of the report.
+const LAMPS: [(&str, &[&str], [&str; 4]); 3] = [
+    (
+        "lamp --events 2000000",
+        &[SHORT, ON, TCP],
+        ["events 2000000", "arrived 3", "lamp on", "switches 1"],
+    ),
+    (
+        "lamp",
+        &["!", ON],
+        ["events 400000", "arrived 1", "lamp off", "switches 0"],
+    ),
+    (
+        "lamp",
+        &[],
+        ["events 400000", "arrived 0", "lamp off", "switches 0"],
+    ),
+];
 
-// Whether both calls run the source until it halts so.
-fn both_halt<R: Threads + Wait + Sync>(
-    rt: &R,
-    alloc: Global,
-    source: &str,
-    end: &str,
-) -> Result<bool, AllocError> {
-    let line = "run --events 20000";
-    let plain = is_halted(&by_plain(alloc, line, source.as_bytes())?, end);
-    let raced = is_halted(&by_bulb(rt, alloc, line, source.as_bytes())?, end);
-    Ok(plain && raced)
-}
-
-// A halted machine has fewer entries than it may have.
-#[test]
-fn runs_until_a_halt(rt: HostRuntime) -> Result<(), Fail> {
-    let run = "run --log --trace --events 20000";
-    for (source, end) in HALTING {
-        assert!(rt; both_halt(&rt, rt.alloc(), source, end)?, "of {source}");
-        assert!(rt; are_replayed(&rt, rt.alloc(), source, run)?, "of {source}");
-    }
-    Ok(())
-}
-
-// Whether the lamp's report has these lines.
-fn lights(a: &Answer, lines: &[&str]) -> bool {
-    a.status == 0
-        && a.has_image
-        && has_line(&a.written, "end running")
-        && lines.iter().all(|line| has_line(&a.written, line))
-}
-
-// Whether `plain` lights the lamp so, where these frames arrive.
-fn plain_lights(
-    alloc: Global,
-    line: &str,
-    frames: &[&str],
-    lines: &[&str],
-) -> Result<bool, AllocError> {
-    let input = frames.concat(alloc)?;
-    Ok(lights(&by_plain(alloc, line, input.as_bytes())?, lines))
-}
-
-// Whether `bulb` does.
-fn bulb_lights<R: Threads + Wait + Sync>(
+// Nothing where both light the lamp so, else what was told otherwise.
+fn lamps_unless<R: Threads + Wait + Sync>(
     rt: &R,
     alloc: Global,
     line: &str,
     frames: &[&str],
     lines: &[&str],
-) -> Result<bool, AllocError> {
+) -> Result<String, AllocError> {
     let input = frames.concat(alloc)?;
-    Ok(lights(&by_bulb(rt, alloc, line, input.as_bytes())?, lines))
+    by_both_unless(rt, alloc, line, &input, Wanted::Lit(lines))
 }
 
 #[test]
-fn switches_the_lamp_on(rt: HostRuntime) -> Result<(), Fail> {
-    let line = "lamp --events 2000000";
-    let frames = [SHORT, ON, TCP];
-    let lines = ["events 2000000", "arrived 3", "lamp on", "switches 1"];
-    assert!(rt; plain_lights(rt.alloc(), line, &frames, &lines)?);
-    assert!(rt; bulb_lights(&rt, rt.alloc(), line, &frames, &lines)?);
-    Ok(())
-}
-
-#[test]
-fn leaves_the_lamp_off(rt: HostRuntime) -> Result<(), Fail> {
-    let marked = ["!", ON];
-    let lines = ["events 400000", "arrived 1", "lamp off", "switches 0"];
-    assert!(rt; plain_lights(rt.alloc(), "lamp", &marked, &lines)?);
-    assert!(rt; bulb_lights(&rt, rt.alloc(), "lamp", &marked, &lines)?);
-    let lines = ["events 400000", "arrived 0", "lamp off", "switches 0"];
-    assert!(rt; plain_lights(rt.alloc(), "lamp", &[], &lines)?);
-    assert!(rt; bulb_lights(&rt, rt.alloc(), "lamp", &[], &lines)?);
+fn switches_the_lamp(rt: HostRuntime) -> Result<(), Fail> {
+    for (line, frames, lines) in &LAMPS {
+        let got = lamps_unless(&rt, rt.alloc(), line, frames, lines)?;
+        assert_eq!(rt; got.as_str(), "", "of {line} {frames:?}");
+    }
     Ok(())
 }
 
@@ -520,50 +555,45 @@ const OFF_AGAIN: [&str; 4] = ["events 4000000", "arrived 2", "lamp off", "switch
 
 #[test]
 fn switches_the_lamp_off_again(rt: HostRuntime) -> Result<(), Fail> {
-    assert!(rt; plain_lights(rt.alloc(), "lamp --events 4000000", &[ON, OFF], &OFF_AGAIN)?);
+    let input = [ON, OFF].concat(rt.alloc())?;
+    let wanted = Wanted::Lit(&OFF_AGAIN);
+    let got = by_plain_unless(rt.alloc(), "lamp --events 4000000", &input, wanted)?;
+    assert_eq!(rt; got.as_str(), "");
     Ok(())
 }
 
 #[test]
 fn switches_the_lamp_off_again_by_a_crew(rt: HostRuntime) -> Result<(), Fail> {
-    let line = "lamp --events 4000000";
-    assert!(rt; bulb_lights(&rt, rt.alloc(), line, &[ON, OFF], &OFF_AGAIN)?);
+    let input = [ON, OFF].concat(rt.alloc())?;
+    let wanted = Wanted::Lit(&OFF_AGAIN);
+    let got = by_bulb_unless(&rt, rt.alloc(), "lamp --events 4000000", &input, wanted)?;
+    assert_eq!(rt; got.as_str(), "");
     Ok(())
 }
 
-// Whether it is this verdict, without an image.
-fn judges(a: &Answer, verdict: &str) -> bool {
-    a.is(0, verdict.as_bytes()) && !a.has_image
-}
-
-// Whether both calls judge a boot whose first wait is in vain so many times, and then goes on so.
-fn both_judge<R: Threads + Wait + Sync>(
+// What both tell of a boot whose first wait is in vain so many times, and then goes on so.
+fn told_of_boot<R: Threads + Wait + Sync>(
     rt: &R,
     alloc: Global,
     polls: usize,
     more: &str,
-    verdict: &str,
-) -> Result<bool, AllocError> {
+) -> Result<String, AllocError> {
     let pins = "st 10012038 0000003c\nst 10012008 00800000\nst 10024018 00000002\n";
     let waits = "ld 10024048 80000000\n".repeat(alloc, polls)?;
     let trace = format!(in alloc; "{pins}{waits}st 10024018 00000000\n{more}")?;
-    let plain = judges(&by_plain(alloc, "judge", trace.as_bytes())?, verdict);
-    let raced = judges(&by_bulb(rt, alloc, "judge", trace.as_bytes())?, verdict);
-    Ok(plain && raced)
+    told_by_both(rt, alloc, "judge", &trace)
 }
 
 // The status of the chip's bus never comes: 1,000 vain polls, then standstill.
 #[test]
 fn judges_waits_in_vain(rt: HostRuntime) -> Result<(), Fail> {
-    for (polls, more, verdict) in [
-        (1000usize, "", "prefix rounds 0\n"),
-        (1000, "st 10024018 00000000\n", "leaves at 1004\n"),
-        (999, "", "leaves at 1002\n"),
+    for (polls, more, want) in [
+        (1000usize, "", "0\nprefix rounds 0\n"),
+        (1000, "st 10024018 00000000\n", "0\nleaves at 1004\n"),
+        (999, "", "0\nleaves at 1002\n"),
     ] {
-        assert!(rt;
-            both_judge(&rt, rt.alloc(), polls, more, verdict)?,
-            "of {polls} polls"
-        );
+        let got = told_of_boot(&rt, rt.alloc(), polls, more)?;
+        assert_eq!(rt; got.as_str(), want, "of {polls} polls");
     }
     Ok(())
 }

@@ -1,7 +1,7 @@
 // Each operation on pairs of words, in code that was compiled and run.
-use lb_testkit::call::{ends, whole};
-use lb_trace::{Event, print_trace};
+use lb_testkit::call::{told_by_plain, whole};
 use std::alloc::{AllocError, Global};
+use std::process::Abort;
 use std::test::Fail;
 
 const ADDRESS: u32 = 268_509_196;
@@ -52,9 +52,8 @@ const ROWS: [(&str, [u32; 7]); 15] = [
 ];
 
 // A program that writes what the operation gives on each pair: the operands as literals, or read from variables.
-fn program(alloc: Global, sign: &str, literals: bool) -> Result<Vec<u8>, AllocError> {
-    let mut text = Vec::new(alloc);
-    text.extend_from_slice(b"fn init() {\n")?;
+fn program(alloc: Global, sign: &str, literals: bool) -> Result<String, AllocError> {
+    let mut text = String::from_str(alloc, "fn init() {\n")?;
     for (left, right) in PAIRS {
         let lines = if literals {
             format!(in alloc; "  MMIOWRITE({ADDRESS}, ({left} {sign} {right}));\n")?
@@ -63,40 +62,47 @@ fn program(alloc: Global, sign: &str, literals: bool) -> Result<Vec<u8>, AllocEr
                 "  a = {left};\n  b = {right};\n  MMIOWRITE({ADDRESS}, (a {sign} b));\n"
             )?
         };
-        text.extend_from_slice(lines.as_bytes())?;
+        text.push_str(&lines)?;
     }
-    text.extend_from_slice(b"}\nfn loop() {\n}\n")?;
+    text.push_str("}\nfn loop() {\n}\n")?;
     Ok(text)
 }
 
-// The report of a run that writes these values and goes on.
-fn report(alloc: Global, values: &[u32]) -> Result<Vec<u8>, AllocError> {
-    let mut events = Vec::new(alloc);
+// What a run tells that writes these values and goes on.
+fn expected(alloc: Global, values: &[u32]) -> Result<String, AllocError> {
+    let mut text = String::from_str(alloc, "0 image\ndone 5000\nmmio 7\nend running\ntrace\n")?;
     for value in values {
-        events.push(Event::St {
-            addr: ADDRESS,
-            value: *value,
-        })?;
+        let event = format!(in alloc; "st 1001200c {value:08x}\n")?;
+        text.push_str(&event)?;
     }
-    let mut text = Vec::new(alloc);
-    text.extend_from_slice(b"done 5000\nmmio 7\nend running\ntrace\n")?;
-    text.extend_from_slice(&print_trace(alloc, &events)?)?;
     Ok(text)
 }
 
-// Whether the code of that program writes these values.
-fn computes(alloc: Global, sign: &str, literals: bool, values: &[u32]) -> Result<bool, AllocError> {
+// What the run of the code tells.
+fn told(alloc: Global, sign: &str, literals: bool) -> Result<String, AllocError> {
     let text = program(alloc, sign, literals)?;
-    let want = report(alloc, values)?;
-    let call = whole(&["bulb", "isa", "--events", "5000", "--trace"], &text);
-    ends(alloc, &call, 0, &want)
+    let words = ["bulb", "isa", "--events", "5000", "--trace"];
+    told_by_plain(alloc, &whole(&words, text.as_bytes()))
+}
+
+// Asserts that the code computes these values.
+fn computes(rt: &impl Abort, alloc: Global, sign: &str, values: &[u32]) -> Result<(), AllocError> {
+    let want = expected(alloc, values)?;
+    for literals in [true, false] {
+        let got = told(alloc, sign, literals)?;
+        assert_eq!(rt;
+            got.as_str(),
+            want.as_str(),
+            "of {sign}, literals: {literals}"
+        );
+    }
+    Ok(())
 }
 
 #[test]
 fn computes_each_operation(rt: HostRuntime) -> Result<(), Fail> {
     for (sign, values) in ROWS {
-        assert!(rt; computes(rt.alloc(), sign, true, &values)?, "of {sign}");
-        assert!(rt; computes(rt.alloc(), sign, false, &values)?, "of {sign}");
+        computes(&rt, rt.alloc(), sign, &values)?;
     }
     Ok(())
 }

@@ -1,5 +1,5 @@
 // Reading and writing in pieces, and failing in the middle.
-use lb_testkit::call::{Call, call_plain, ends, whole};
+use lb_testkit::call::{Call, call_plain, told_by_plain, whole};
 use std::alloc::{AllocError, Global};
 use std::test::Fail;
 
@@ -10,64 +10,88 @@ const REPORT: &[u8] = b"mmio 1\nend starved\ntrace\nld 10024048 00000000\n";
 
 const WORDS: [&str; 4] = ["bulb", "interp", "--events=1000", "--trace"];
 
-#[test]
-fn reads_and_writes_bytes_singly(rt: HostRuntime) -> Result<(), Fail> {
-    let call = Call {
-        piece: 1,
-        ..whole(&WORDS, READS)
-    };
-    assert!(rt; ends(rt.alloc(), &call, 0, REPORT)?);
-    Ok(())
-}
+// A call of the program on the text.
+const AMPLE: Call<'static> = Call {
+    words: &WORDS,
+    input: READS,
+    piece: 65_536,
+    read_fails: &[],
+    room: 65_536,
+    write_fails: &[],
+};
+
+// Sources and sinks that go by pieces, fail or are cut, and what is told.
+const ROWS: [(Call<'static>, &str); 6] = [
+    (
+        Call { piece: 1, ..AMPLE },
+        "0 image\nmmio 1\nend starved\ntrace\nld 10024048 00000000\n",
+    ),
+    (
+        Call {
+            read_fails: &[0],
+            ..AMPLE
+        },
+        "6\nread fault\n",
+    ),
+    (
+        Call {
+            read_fails: &[1],
+            ..AMPLE
+        },
+        "6\nread fault\n",
+    ),
+    (
+        Call {
+            piece: 1,
+            read_fails: &[40],
+            ..AMPLE
+        },
+        "6\nread fault\n",
+    ),
+    // The status of a refusal stays where its line is cut.
+    (
+        Call {
+            words: &["bulb"],
+            room: 4,
+            ..AMPLE
+        },
+        "1\nusag",
+    ),
+    (
+        Call {
+            piece: 10,
+            write_fails: &[2],
+            ..AMPLE
+        },
+        "7 image\nmmio 1\nend starved\nt",
+    ),
+];
 
 #[test]
-fn tells_a_read_that_fails(rt: HostRuntime) -> Result<(), Fail> {
-    for (piece, fails) in [(65_536, 0u64), (65_536, 1), (1, 40)] {
-        let call = Call {
-            piece,
-            read_fails: &[fails],
-            ..whole(&WORDS, READS)
-        };
-        assert!(rt; ends(rt.alloc(), &call, 6, b"read fault\n")?, "at {fails}");
+fn goes_by_pieces_and_tells_what_fails(rt: HostRuntime) -> Result<(), Fail> {
+    for (number, (call, want)) in ROWS.iter().enumerate() {
+        let got = told_by_plain(rt.alloc(), call)?;
+        assert_eq!(rt; got.as_str(), *want, "of row {number}");
     }
     Ok(())
 }
 
-#[test]
-fn keeps_the_status_where_the_line_is_cut(rt: HostRuntime) -> Result<(), Fail> {
-    let call = Call {
-        room: 4,
-        ..whole(&["bulb"], READS)
-    };
-    assert!(rt; ends(rt.alloc(), &call, 1, b"usag")?);
-    Ok(())
-}
-
-// Whether a sink with so much room holds as much of the report, the status tells that it is cut, and the image is shown.
-fn is_cut_at(alloc: Global, room: usize) -> Result<bool, AllocError> {
-    let call = Call {
-        room,
-        ..whole(&WORDS, READS)
-    };
-    let a = call_plain(alloc, &call)?;
-    Ok(
-        a.status == 7
-            && a.written.len() == room
-            && REPORT.starts_with(a.written.as_slice())
-            && a.has_image,
-    )
+// Nothing where a sink with so much room holds as much of the report, the status tells that it is cut, and the image is
+// shown; else what was told.
+fn told_otherwise(alloc: Global, room: usize) -> Result<String, AllocError> {
+    let a = call_plain(alloc, &Call { room, ..AMPLE })?;
+    let is_cut = a.status == 7
+        && a.written.len() == room
+        && REPORT.starts_with(a.written.as_slice())
+        && a.has_image;
+    a.told_unless(alloc, is_cut)
 }
 
 #[test]
-fn tells_a_write_that_fails(rt: HostRuntime) -> Result<(), Fail> {
+fn tells_a_report_that_is_cut(rt: HostRuntime) -> Result<(), Fail> {
     for room in [0, 1, 20, 45] {
-        assert!(rt; is_cut_at(rt.alloc(), room)?, "room {room}");
+        let got = told_otherwise(rt.alloc(), room)?;
+        assert_eq!(rt; got.as_str(), "", "room {room}");
     }
-    let call = Call {
-        piece: 10,
-        write_fails: &[2],
-        ..whole(&WORDS, READS)
-    };
-    assert!(rt; ends(rt.alloc(), &call, 7, b"mmio 1\nend starved\nt")?);
     Ok(())
 }

@@ -1,5 +1,5 @@
 // Programs at their limits, and one past each.
-use lb_testkit::call::{Answer, Call, call_plain, ends, whole};
+use lb_testkit::call::{Call, call_plain, told_by_plain, whole};
 use std::alloc::{AllocError, Global};
 use std::test::Fail;
 
@@ -48,17 +48,17 @@ fn takes_names_and_numbers_up_to_their_ends(rt: HostRuntime) -> Result<(), Fail>
     Ok(())
 }
 
-// Whether a program that assigns so many variables runs.
-fn runs(alloc: Global, variables: u32) -> Result<bool, AllocError> {
+// What is told of the run of a program that assigns so many variables.
+fn told_of_assignments(alloc: Global, variables: u32) -> Result<String, AllocError> {
     let text = assignments(alloc, variables, 1)?;
-    let call = whole(&["bulb", "isa", "--events", "100000"], &text);
-    ends(alloc, &call, 0, b"done 100000\nmmio 0\nend running\n")
+    told_by_plain(alloc, &whole(&["bulb", "isa", "--events", "100000"], &text))
 }
 
 // A frame of 4 * (1,000 + 1 + 34) = 4,140 bytes.
 #[test]
 fn builds_large_frames(rt: HostRuntime) -> Result<(), Fail> {
-    assert!(rt; runs(rt.alloc(), 1000)?);
+    let got = told_of_assignments(rt.alloc(), 1000)?;
+    assert_eq!(rt; got.as_str(), "0 image\ndone 100000\nmmio 0\nend running\n");
     Ok(())
 }
 
@@ -75,43 +75,51 @@ fn builds_code_up_to_32768_words(rt: HostRuntime) -> Result<(), Fail> {
     Ok(())
 }
 
-// What `run` answers to a source of one line, and so many times a part of the lines of frames behind the mark.
-fn answer_to_frames(alloc: Global, part: &str, many: usize) -> Result<Answer, AllocError> {
+// What `run` tells of a source of one line, and so many times a part of the lines of frames behind the mark.
+fn told_of_frames(alloc: Global, part: &str, many: usize) -> Result<String, AllocError> {
     let frames = part.repeat(alloc, many)?;
     let input = format!(in alloc; "fn init() {{ }} fn loop() {{ }}\n%%\n{frames}")?;
-    call_plain(
+    told_by_plain(
         alloc,
         &whole(&["bulb", "run", "--events", "5"], input.as_bytes()),
     )
 }
 
-// Whether the frames are taken.
-fn takes_frames(alloc: Global, part: &str, many: usize) -> Result<bool, AllocError> {
-    Ok(answer_to_frames(alloc, part, many)?.status == 0)
-}
-
-// Whether the frames are refused with this line.
-fn refuses_frames(alloc: Global, part: &str, many: usize, line: &str) -> Result<bool, AllocError> {
-    Ok(answer_to_frames(alloc, part, many)?.is(5, line.as_bytes()))
-}
-
-// 64 frames of a byte, one frame of 2,000 bytes, and one more of each.
+// 64 frames of a byte, and one frame of 2,000 bytes.
 #[test]
 fn takes_64_frames_and_2000_bytes(rt: HostRuntime) -> Result<(), Fail> {
-    assert!(rt; takes_frames(rt.alloc(), "00\n", 64)?);
-    assert!(rt; refuses_frames(rt.alloc(), "00\n", 65, "line 67 too-many\n")?);
-    assert!(rt; takes_frames(rt.alloc(), "00", 2000)?);
-    assert!(rt; refuses_frames(rt.alloc(), "00", 2001, "line 3 too-long\n")?);
+    for (part, many) in [("00\n", 64), ("00", 2000)] {
+        let got = told_of_frames(rt.alloc(), part, many)?;
+        assert_eq!(rt; got.lines().next(), Some("0 image"), "of {many}");
+    }
     Ok(())
 }
 
+// One more of each.
 #[test]
-fn refuses_an_input_that_is_too_long(rt: HostRuntime) -> Result<(), Fail> {
-    let text = vec![in rt.alloc(); b' '; 1_048_577]?;
+fn refuses_65_frames_and_2001_bytes(rt: HostRuntime) -> Result<(), Fail> {
+    for (part, many, want) in [
+        ("00\n", 65, "5\nline 67 too-many\n"),
+        ("00", 2001, "5\nline 3 too-long\n"),
+    ] {
+        let got = told_of_frames(rt.alloc(), part, many)?;
+        assert_eq!(rt; got.as_str(), want, "of {many}");
+    }
+    Ok(())
+}
+
+// The status of an input that is too long.
+fn status_of_blanks(alloc: Global, many: usize) -> Result<u8, AllocError> {
+    let text = vec![in alloc; b' '; many]?;
     let call = Call {
         piece: 1_000_000,
         ..whole(&["bulb", "isa"], &text)
     };
-    assert_eq!(rt; call_plain(rt.alloc(), &call)?.status, 8);
+    Ok(call_plain(alloc, &call)?.status)
+}
+
+#[test]
+fn refuses_an_input_that_is_too_long(rt: HostRuntime) -> Result<(), Fail> {
+    assert_eq!(rt; status_of_blanks(rt.alloc(), 1_048_577)?, 8);
     Ok(())
 }

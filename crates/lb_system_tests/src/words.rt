@@ -1,11 +1,11 @@
 // Words with options, which `check` takes and does nothing with, and the forms of the number of events, which `run` makes.
-use lb_testkit::call::{Answer, call_plain, ends, whole, words_of_line};
+use lb_testkit::call::{told_by_plain, whole, words_of_line};
 use std::alloc::{AllocError, Global};
 use std::test::Fail;
 
 const EMPTY: &[u8] = b"fn init() { } fn loop() { }";
 
-const USAGE: &str = "usage: bulb MODE [--events N] [--workers W] [--seed S] [--log] [--trace]\n";
+const USAGE: &str = "1\nusage: bulb MODE [--events N] [--workers W] [--seed S] [--log] [--trace]\n";
 
 // Words behind the program's name, with a blank between them, that ask for `check`.
 const TAKEN: &str = "check
@@ -71,61 +71,41 @@ const REFUSED_WORDS: [&[&str]; 5] = [
     &["check", "bulb"],
 ];
 
-// What the program answers to the words of a line.
-fn answer(alloc: Global, line: &str) -> Result<Answer, AllocError> {
+// What the program tells the words of a line.
+fn told(alloc: Global, line: &str) -> Result<String, AllocError> {
     let words = words_of_line(alloc, line)?;
-    call_plain(alloc, &whole(&words, EMPTY))
-}
-
-// Whether the words of a line are answered so.
-fn ends_so(alloc: Global, line: &str, status: u8, written: &str) -> Result<bool, AllocError> {
-    Ok(answer(alloc, line)?.is(status, written.as_bytes()))
+    told_by_plain(alloc, &whole(&words, EMPTY))
 }
 
 #[test]
 fn takes_options(rt: HostRuntime) -> Result<(), Fail> {
-    for (lines, status, written) in [
-        (TAKEN, 0, "ok functions 2 words 176 stack 136\n"),
-        (REFUSED, 1, USAGE),
+    for (lines, want) in [
+        (TAKEN, "0\nok functions 2 words 176 stack 136\n"),
+        (REFUSED, USAGE),
     ] {
         for line in lines.lines() {
-            assert!(rt; ends_so(rt.alloc(), line, status, written)?, "of {line}");
+            let got = told(rt.alloc(), line)?;
+            assert_eq!(rt; got.as_str(), want, "of {line}");
         }
     }
     Ok(())
 }
 
-// Whether both lines are answered by the report of five entries.
-fn make_five_entries(alloc: Global, one: &str, other: &str) -> Result<bool, AllocError> {
-    let a = answer(alloc, one)?;
-    let b = answer(alloc, other)?;
-    Ok(
-        a.status == 0
-            && b.status == 0
-            && a.written.starts_with(b"events 5\n")
-            && a.written == b.written,
-    )
-}
-
+// Both lines are answered by the same report, of five entries.
 #[test]
 fn takes_a_number_with_its_sign(rt: HostRuntime) -> Result<(), Fail> {
-    assert!(rt;
-        make_five_entries(
-            rt.alloc(),
-            "run --events=+5 --workers 1",
-            "run --events 5 --workers 1"
-        )?
-    );
+    let signed = told(rt.alloc(), "run --events=+5 --workers 1")?;
+    let plain = told(rt.alloc(), "run --events 5 --workers 1")?;
+    assert_eq!(rt; signed.as_str(), plain.as_str());
+    assert_eq!(rt; signed.lines().nth(1), Some("events 5"));
     Ok(())
 }
 
 #[test]
 fn refuses_words_of_no_mode(rt: HostRuntime) -> Result<(), Fail> {
     for words in REFUSED_WORDS {
-        assert!(rt;
-            ends(rt.alloc(), &whole(words, EMPTY), 1, USAGE.as_bytes())?,
-            "of {words:?}"
-        );
+        let got = told_by_plain(rt.alloc(), &whole(words, EMPTY))?;
+        assert_eq!(rt; got.as_str(), USAGE, "of {words:?}");
     }
     Ok(())
 }

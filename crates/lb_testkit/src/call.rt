@@ -53,10 +53,37 @@ pub struct Answer {
 }
 
 impl Answer {
-    /// Whether the call ended with this status and wrote this.
-    pub fn is(&self, status: u8, written: &[u8]) -> bool {
-        self.status == status && self.written.as_slice() == written
+    /// What the call told, to be compared and printed: see `told`.
+    pub fn told(&self, alloc: Global) -> Result<String, AllocError> {
+        told(alloc, self.status, self.has_image, &self.written)
     }
+
+    /// Nothing where the answer is right, else what the call told.
+    pub fn told_unless(&self, alloc: Global, is_right: bool) -> Result<String, AllocError> {
+        if is_right {
+            Ok(String::new(alloc))
+        } else {
+            self.told(alloc)
+        }
+    }
+}
+
+/// What a call told, as one text: the status, with ` image` behind it where an image was used, and from the next line on
+/// what was written. Bytes that are no text are replaced by a sign that no expected text has.
+pub fn told(
+    alloc: Global,
+    status: u8,
+    has_image: bool,
+    written: &[u8],
+) -> Result<String, AllocError> {
+    let image = if has_image { " image" } else { "" };
+    let text = String::from_utf8_lossy(alloc, written)?;
+    format!(in alloc; "{status}{image}\n{text}")
+}
+
+/// What the call by `plain` told.
+pub fn told_by_plain(alloc: Global, call: &Call<'_>) -> Result<String, AllocError> {
+    call_plain(alloc, call)?.told(alloc)
 }
 
 /// The words of a line, which have a blank between them, behind the program's name.
@@ -78,16 +105,6 @@ pub fn log_of_report(report: &[u8]) -> &[u8] {
         }
     }
     b""
-}
-
-/// Whether the call, made by `plain`, ends with this status and writes this.
-pub fn ends(
-    alloc: Global,
-    call: &Call<'_>,
-    status: u8,
-    written: &[u8],
-) -> Result<bool, AllocError> {
-    Ok(call_plain(alloc, call)?.is(status, written))
 }
 
 /// Makes the call by `plain`.
