@@ -79,8 +79,9 @@ fn believes_a_lying_board_as_the_instruction_set_does(rt: HostRuntime) -> Result
         let seen = run(rt.alloc(), seed)?;
         assert_eq!(rt; seen.right, seen.steps, "seed {seed}");
         assert_eq!(rt; seen.events, seen.done.saturating_add(1) / 3, "seed {seed}");
-        assert!(rt; 500 <= seen.steps, "seed {seed}");
-        assert!(rt; seen.steps <= seen.done.saturating_mul(15).saturating_add(33));
+        assert!(rt; 500 <= seen.steps, "{seen:?} of seed {seed}");
+        let most = seen.done.saturating_mul(15).saturating_add(33);
+        assert!(rt; seen.steps <= most, "{seen:?} of seed {seed}");
     }
     Ok(())
 }

@@ -9,7 +9,7 @@ static BYTES: &[u8] = b"fn init() { }\r\nfn loop() { }\n%%\n\0\xff";
 // What was seen of a source: how many bytes were read and whether they are the first ones, or why none were; how often it
 // failed, and how often it was asked from its stop on.
 #[derive(Clone, Copy, Debug, PartialEq, Eq)]
-struct Read {
+struct Reading {
     answer: Result<usize, ReadAllFault>,
     is_front: bool,
     faults: u64,
@@ -17,13 +17,13 @@ struct Read {
 }
 
 // Reads a source that stops so.
-fn read(alloc: Global, stop: Stop) -> Read {
+fn read(alloc: Global, stop: Stop) -> Reading {
     let mut source = SlowSource::new(BYTES, stop);
     let (answer, is_front) = match read_all(alloc, &mut source, 1000) {
         Ok(bytes) => (Ok(bytes.len()), BYTES.starts_with(&bytes)),
         Err(fault) => (Err(fault), false),
     };
-    Read {
+    Reading {
         answer,
         is_front,
         faults: source.faults,
@@ -34,7 +34,7 @@ fn read(alloc: Global, stop: Stop) -> Read {
 // What was seen of a sink: what was answered, how many bytes it holds and whether they are the first ones, and how often
 // it failed.
 #[derive(Clone, Copy, Debug, PartialEq, Eq)]
-struct Written {
+struct Writing {
     answer: Result<(), WriteFault>,
     length: usize,
     is_front: bool,
@@ -42,10 +42,10 @@ struct Written {
 }
 
 // Writes to a sink that takes so many bytes at a time and stops so.
-fn write(alloc: Global, piece: usize, stop: Stop) -> Written {
+fn write(alloc: Global, piece: usize, stop: Stop) -> Writing {
     let mut sink = SlowSink::new(alloc, piece, stop);
     let answer = write_all(&mut sink, BYTES);
-    Written {
+    Writing {
         answer,
         length: sink.held().len(),
         is_front: BYTES.starts_with(sink.held()),
@@ -55,7 +55,7 @@ fn write(alloc: Global, piece: usize, stop: Stop) -> Written {
 
 #[test]
 fn reads_up_to_a_stop(rt: HostRuntime) {
-    let all = Read {
+    let all = Reading {
         answer: Ok(BYTES.len()),
         is_front: true,
         faults: 0,
@@ -63,7 +63,7 @@ fn reads_up_to_a_stop(rt: HostRuntime) {
     };
     assert_eq!(rt; read(rt.alloc(), NEVER), all);
     for place in 0..BYTES.len() + 1 {
-        let failed = Read {
+        let failed = Reading {
             answer: Err(ReadAllFault::Read),
             is_front: false,
             faults: 1,
@@ -75,7 +75,7 @@ fn reads_up_to_a_stop(rt: HostRuntime) {
             failed,
             "at {place}"
         );
-        let front = Read {
+        let front = Reading {
             answer: Ok(place),
             late: 1,
             ..all
@@ -88,7 +88,7 @@ fn reads_up_to_a_stop(rt: HostRuntime) {
 // Asserts that a sink which stops at a byte holds what goes before, and was asked once at its stop.
 fn writes_front(rt: &impl Abort, alloc: Global, piece: usize, what: AtStop) {
     for place in 0..BYTES.len() {
-        let front = Written {
+        let front = Writing {
             answer: Err(WriteFault),
             length: place,
             is_front: true,
@@ -102,7 +102,7 @@ fn writes_front(rt: &impl Abort, alloc: Global, piece: usize, what: AtStop) {
 #[test]
 fn writes_up_to_a_stop(rt: HostRuntime) {
     for piece in [1usize, 2, 3, 7, 1000] {
-        let all = Written {
+        let all = Writing {
             answer: Ok(()),
             length: BYTES.len(),
             is_front: true,

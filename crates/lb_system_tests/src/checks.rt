@@ -131,10 +131,19 @@ const TEXTS: [(&str, &str); 15] = [
 ];
 
 #[test]
-fn tells_needs_rules_and_where_a_text_fails(rt: HostRuntime) -> Result<(), Fail> {
-    for (input, want) in RULES.iter().chain(&TEXTS) {
+fn tells_needs_and_rules(rt: HostRuntime) -> Result<(), Fail> {
+    for (input, want) in RULES {
         let got = told_by_plain(rt.alloc(), &whole(&CHECK, input.as_bytes()))?;
-        assert_eq!(rt; got.as_str(), *want, "of {input}");
+        assert_eq!(rt; got.as_str(), want, "of {input}");
+    }
+    Ok(())
+}
+
+#[test]
+fn tells_where_a_text_fails(rt: HostRuntime) -> Result<(), Fail> {
+    for (input, want) in TEXTS {
+        let got = told_by_plain(rt.alloc(), &whole(&CHECK, input.as_bytes()))?;
+        assert_eq!(rt; got.as_str(), want, "of {input}");
     }
     Ok(())
 }
@@ -146,27 +155,46 @@ fn tells_the_needs_of_the_driver(rt: HostRuntime) -> Result<(), Fail> {
     Ok(())
 }
 
+const AMPLE: Call<'static> = Call {
+    words: &CHECK,
+    input: EMPTY,
+    piece: 65_536,
+    read_fails: &[],
+    room: 65_536,
+    write_fails: &[],
+};
+
+// Reads and writes that fail, and a sink that is full.
+const FAILING: [(Call<'static>, &str); 3] = [
+    (
+        Call {
+            read_fails: &[0],
+            ..AMPLE
+        },
+        "6\nread fault\n",
+    ),
+    (
+        Call {
+            write_fails: &[0],
+            ..AMPLE
+        },
+        "7\n",
+    ),
+    (
+        Call {
+            input: b"fn init() { }",
+            room: 9,
+            ..AMPLE
+        },
+        "3\ncheck no-",
+    ),
+];
+
 #[test]
 fn tells_reads_and_writes_that_fail(rt: HostRuntime) -> Result<(), Fail> {
-    let unread = Call {
-        read_fails: &[0],
-        ..whole(&CHECK, EMPTY)
-    };
-    let unwritten = Call {
-        write_fails: &[0],
-        ..whole(&CHECK, EMPTY)
-    };
-    let cut = Call {
-        room: 9,
-        ..whole(&CHECK, b"fn init() { }")
-    };
-    for (call, want) in [
-        (unread, "6\nread fault\n"),
-        (unwritten, "7\n"),
-        (cut, "3\ncheck no-"),
-    ] {
-        let got = told_by_plain(rt.alloc(), &call)?;
-        assert_eq!(rt; got.as_str(), want);
+    for (call, want) in &FAILING {
+        let got = told_by_plain(rt.alloc(), call)?;
+        assert_eq!(rt; got.as_str(), *want);
     }
     Ok(())
 }

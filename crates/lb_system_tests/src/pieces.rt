@@ -69,9 +69,9 @@ const ROWS: [(Call<'static>, &str); 6] = [
 
 #[test]
 fn goes_by_pieces_and_tells_what_fails(rt: HostRuntime) -> Result<(), Fail> {
-    for (number, (call, want)) in ROWS.iter().enumerate() {
+    for (call, want) in &ROWS {
         let got = told_by_plain(rt.alloc(), call)?;
-        assert_eq!(rt; got.as_str(), *want, "of row {number}");
+        assert_eq!(rt; got.as_str(), *want);
     }
     Ok(())
 }

@@ -91,13 +91,23 @@ fn takes_options(rt: HostRuntime) -> Result<(), Fail> {
     Ok(())
 }
 
-// Both lines are answered by the same report, of five entries.
+// What the program tells the words of both lines; where it differs, one behind the other.
+fn told_of_both(alloc: Global, line: &str, other: &str) -> Result<String, AllocError> {
+    let one = told(alloc, line)?;
+    let two = told(alloc, other)?;
+    if one == two {
+        Ok(one)
+    } else {
+        format!(in alloc; "{line}: {one}{other}: {two}")
+    }
+}
+
+// Both are a run of five entries.
 #[test]
 fn takes_a_number_with_its_sign(rt: HostRuntime) -> Result<(), Fail> {
-    let signed = told(rt.alloc(), "run --events=+5 --workers 1")?;
-    let plain = told(rt.alloc(), "run --events 5 --workers 1")?;
-    assert_eq!(rt; signed.as_str(), plain.as_str());
-    assert_eq!(rt; signed.lines().nth(1), Some("events 5"));
+    let signed = "run --events=+5 --workers 1";
+    let got = told_of_both(rt.alloc(), signed, "run --events 5 --workers 1")?;
+    assert!(rt; got.starts_with("0 image\nevents 5\n"), "{got}");
     Ok(())
 }
 
