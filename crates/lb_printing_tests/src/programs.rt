@@ -5,6 +5,7 @@ use crate::sketch::{NoTree, Sketch, program};
 use lb_printing::print_program;
 use lb_syntax::{Action, Op, Width};
 use std::alloc::Global;
+use std::process::Abort;
 use std::test::Fail;
 
 const A: Term<'static> = Var(b"a");
@@ -13,11 +14,17 @@ const B: Term<'static> = Var(b"b");
 
 const X: Term<'static> = Var(b"x");
 
-// Whether just this text is printed of the program.
-fn prints(alloc: Global, sketches: &[Sketch], text: &[u8]) -> Result<bool, NoTree> {
+// The text that is printed of the program.
+fn printed(alloc: Global, sketches: &[Sketch]) -> Result<String, NoTree> {
     let tree = program(alloc, sketches)?;
-    let printed = print_program(alloc, &tree)?;
-    Ok(printed.as_slice() == text)
+    let bytes = print_program(alloc, &tree)?;
+    String::from_utf8(bytes).map_err(|_| NoTree::NotText)
+}
+
+// Asserts that just this text is printed of the program.
+fn expect(rt: &impl Abort, alloc: Global, sketches: &[Sketch], want: &str) -> Result<(), NoTree> {
+    assert_eq!(rt; printed(alloc, sketches)?.as_str(), want);
+    Ok(())
 }
 
 // A function without parameters and results.
@@ -30,7 +37,7 @@ const fn plain<'a>(name: &'a [u8], body: &'a [Line<'a>]) -> Sketch<'a> {
     }
 }
 
-const EIGHT_LINES: &[u8] = b"fn init() {
+const EIGHT_LINES: &str = "fn init() {
   x = 16;
   if (x < 3) {
     skip;
@@ -48,12 +55,12 @@ const INIT: &[Line<'static>] = &[
 #[test]
 fn prints_functions_one_after_another(rt: HostRuntime) -> Result<(), Fail> {
     let two = [plain(b"init", INIT), plain(b"loop", &[])];
-    assert!(rt; prints(rt.alloc(), &two, EIGHT_LINES)?);
-    assert!(rt; prints(rt.alloc(), &[], b"")?);
+    expect(&rt, rt.alloc(), &two, EIGHT_LINES)?;
+    expect(&rt, rt.alloc(), &[], "")?;
     Ok(())
 }
 
-const HEADS: &[u8] = b"fn f(a) {
+const HEADS: &str = "fn f(a) {
 }
 fn g() -> (r) {
 }
@@ -76,12 +83,12 @@ fn prints_parameters_and_results(rt: HostRuntime) -> Result<(), Fail> {
         results: &[b"r", b"a"],
         ..plain(b"_h2", &[])
     };
-    assert!(rt; prints(rt.alloc(), &[f, g, h], HEADS)?);
+    expect(&rt, rt.alloc(), &[f, g, h], HEADS)?;
     Ok(())
 }
 
 // One command on each line.
-const LINES: &[u8] = b"fn f() {
+const LINES: &str = "fn f() {
   skip;
   x = 0;
   x = 4294967295;
@@ -122,11 +129,11 @@ const COMMANDS: &[Line<'static>] = &[
 
 #[test]
 fn prints_a_command_on_a_line(rt: HostRuntime) -> Result<(), Fail> {
-    assert!(rt; prints(rt.alloc(), &[plain(b"f", COMMANDS)], LINES)?);
+    expect(&rt, rt.alloc(), &[plain(b"f", COMMANDS)], LINES)?;
     Ok(())
 }
 
-const SIGNS: &[u8] = b"fn f() {
+const SIGNS: &str = "fn f() {
   x = (a + b);
   x = (a - b);
   x = (a * b);
@@ -170,11 +177,11 @@ const OPERATIONS: &[Line<'static>] = &[
 
 #[test]
 fn prints_the_sign_of_each_operation(rt: HostRuntime) -> Result<(), Fail> {
-    assert!(rt; prints(rt.alloc(), &[plain(b"f", OPERATIONS)], SIGNS)?);
+    expect(&rt, rt.alloc(), &[plain(b"f", OPERATIONS)], SIGNS)?;
     Ok(())
 }
 
-const NESTED: &[u8] = b"fn f() {
+const NESTED: &str = "fn f() {
   stackalloc 8 as a {
     while x {
       if (x == 1) {
@@ -211,6 +218,6 @@ const BLOCKS: &[Line<'static>] = &[Alloc(
 
 #[test]
 fn prints_blocks_in_blocks(rt: HostRuntime) -> Result<(), Fail> {
-    assert!(rt; prints(rt.alloc(), &[plain(b"f", BLOCKS)], NESTED)?);
+    expect(&rt, rt.alloc(), &[plain(b"f", BLOCKS)], NESTED)?;
     Ok(())
 }

@@ -8,6 +8,8 @@ use std::alloc::{AllocError, Global};
 pub enum NoTree {
     /// What is written down for a name is none.
     Name,
+    /// What is printed isn't text.
+    NotText,
     /// No memory is left.
     Memory,
 }
