@@ -9,4 +9,4 @@ mod workers;
 
 pub use gate::Gate;
 pub use tape::{NotFired, Tape};
-pub use workers::{Worker, are_places, fill, meet_holder};
+pub use workers::{Difference, Worker, fill, first_difference, meet_holder};

@@ -1,6 +1,6 @@
 // One thread and two. What a test asserts is made in functions of their own, since every turn, seat and tape that is at
 // hand makes the proof of a function longer.
-use crate::{Gate, NotFired, Tape, Worker, are_places, fill, meet_holder};
+use crate::{Difference, Gate, NotFired, Tape, Worker, fill, first_difference, meet_holder};
 use lb_trace::{Entry, Kind};
 use lb_turn_testkit::alone::{Alone, fetch_alone};
 use lb_turn_testkit::pair::{Pair, Shared, close_both, open_pair, share};
@@ -9,21 +9,36 @@ use std::sync::Arc;
 use std::test::Fail;
 use std::thread::Threads;
 
-// An entry.
-const fn entry(worker: u8, kind: Kind) -> Entry {
-    Entry { worker, kind }
-}
+// The log of a fetch by the first seat and a boot by the second.
+const FETCH_AND_BOOT: [Option<Entry>; 3] = [
+    Some(Entry {
+        worker: 0,
+        kind: Kind::Fetch,
+    }),
+    Some(Entry {
+        worker: 1,
+        kind: Kind::Boot,
+    }),
+    None,
+];
 
 // A tape whose gate is open.
 fn open_tape(alloc: Global, most: u32) -> Result<Tape, AllocError> {
     Tape::new(alloc, most, Arc::new(alloc, Gate::opened())?)
 }
 
-// Whether it is a tape of these entries.
-fn has(tape: Option<Tape>, log: &[Entry]) -> bool {
+// The first three entries of a tape. They hold no memory, so that an assertion on them costs little.
+fn first_entries(tape: Option<Tape>) -> Option<[Option<Entry>; 3]> {
     match tape {
-        Some(tape) => tape.log() == log,
-        None => false,
+        Some(tape) => {
+            let log = tape.log();
+            Some([
+                log.first().copied(),
+                log.get(1).copied(),
+                log.get(2).copied(),
+            ])
+        }
+        None => None,
     }
 }
 
@@ -37,9 +52,12 @@ fn two_seats_fire_and_both_are_needed_to_close(rt: HostRuntime) -> Result<(), Fa
         missing,
         value,
     } = share(alloc, open_tape(alloc, 9)?, &NotFired::GuardFalse)?;
-    assert!(rt; has(value, &[entry(0, Kind::Fetch), entry(1, Kind::Boot)]));
+    assert_eq!(rt; first_entries(value), Some(FETCH_AND_BOOT));
     assert_eq!(rt; missing, Some(0));
-    assert!(rt; is_refused);
+    assert!(rt;
+        is_refused,
+        "an access of a device is refused by its guard, over two entries"
+    );
     assert_eq!(rt; (first.number, second.number), (0, 1));
     assert_eq!(rt; (first.seen_before, second.seen_before), (0, 0));
     assert_eq!(rt; (first.place, second.place), (Some(0), Some(1)));
@@ -51,7 +69,8 @@ fn two_seats_fire_and_both_are_needed_to_close(rt: HostRuntime) -> Result<(), Fa
 fn one_seat_meets_nobody(rt: HostRuntime) -> Result<(), Fail> {
     let alloc = rt.alloc();
     let Alone { tries, value } = fetch_alone(alloc, open_tape(alloc, 1)?, 100, &NotFired::Full)?;
-    assert!(rt; has(value, &[entry(0, Kind::Fetch)]));
+    let [fetch, ..] = FETCH_AND_BOOT;
+    assert_eq!(rt; first_entries(value), Some([fetch, None, None]));
     assert_eq!(rt; tries.fired, 1);
     assert_eq!(rt; tries.full, 99);
     assert_eq!(rt; tries.other, 0);
@@ -59,14 +78,14 @@ fn one_seat_meets_nobody(rt: HostRuntime) -> Result<(), Fail> {
     Ok(())
 }
 
-// What two threads made that filled a tape: how many entries it has, how many places they were given, and whether these
-// are the places of each one's entries.
+// What two threads made that filled a tape: how many entries it has, how many places they were given, and for each one
+// where these differ from the places of its entries.
 #[derive(Clone, Copy)]
 struct Filled {
     entries: usize,
     places: usize,
-    are_of_first: bool,
-    are_of_second: bool,
+    of_first: Option<Difference>,
+    of_second: Option<Difference>,
 }
 
 // Two threads fill a tape of 40 entries.
@@ -100,8 +119,8 @@ fn count(tape: Option<Tape>, first: &[u64], second: &[u64]) -> Filled {
     Filled {
         entries: log.len(),
         places: first.len().saturating_add(second.len()),
-        are_of_first: are_places(first, 0, log),
-        are_of_second: are_places(second, 1, log),
+        of_first: first_difference(first, 0, log),
+        of_second: first_difference(second, 1, log),
     }
 }
 
@@ -110,22 +129,22 @@ fn two_threads_share_the_places(rt: HostRuntime) -> Result<(), Fail> {
     let filled = fill_by_two(&rt, rt.alloc())?;
     assert_eq!(rt; filled.entries, 40);
     assert_eq!(rt; filled.places, 40);
-    assert!(rt; filled.are_of_first);
-    assert!(rt; filled.are_of_second);
+    assert_eq!(rt; filled.of_first, None, "of the first seat");
+    assert_eq!(rt; filled.of_second, None, "of the second seat");
     Ok(())
 }
 
 // What was told where a seat met another one while that acted, and where it went on by itself.
 #[derive(Clone, Copy)]
 struct Meeting {
-    has_fired: bool,
-    has_met: bool,
+    fetched_at: Option<u64>,
+    holder: Option<u8>,
     count: u64,
     seen_by_first: u64,
     seen_by_second: u64,
     seen_now: u64,
-    has_booted: bool,
-    is_logged: bool,
+    booted_at: Option<u64>,
+    entries: Option<[Option<Entry>; 3]>,
 }
 
 // The second seat tries while the first acts, and then boots.
@@ -137,35 +156,35 @@ fn meet<R: Threads>(rt: &R, alloc: Global) -> Result<Meeting, AllocError> {
         first,
         second,
     } = open_pair(alloc, tape)?;
-    let ((first, has_fired), (mut second, has_met, count)) = meet_holder(
+    let ((first, fetched_at), (mut second, holder, count)) = meet_holder(
         rt, &gate, &turn, first, second,
     );
     let (seen_by_first, seen_by_second) = (first.seen(), second.seen());
     let seen_now = turn.seen_now(&mut second);
-    let has_booted = matches!(turn.try_fire(&mut second, Kind::Boot), Ok(1));
+    let booted_at = turn.try_fire(&mut second, Kind::Boot).ok();
     let tape = close_both(alloc, turn, second, first)?;
     Ok(Meeting {
-        has_fired,
-        has_met,
+        fetched_at,
+        holder,
         count,
         seen_by_first,
         seen_by_second,
         seen_now,
-        has_booted,
-        is_logged: has(tape, &[entry(0, Kind::Fetch), entry(1, Kind::Boot)]),
+        booted_at,
+        entries: first_entries(tape),
     })
 }
 
 #[test]
 fn a_seat_meets_the_holder(rt: HostRuntime) -> Result<(), Fail> {
     let meeting = meet(&rt, rt.alloc())?;
-    assert!(rt; meeting.has_fired, "the first seat fired");
-    assert!(rt; meeting.has_met, "the second one met it");
+    assert_eq!(rt; meeting.fetched_at, Some(0), "the first seat fired");
+    assert_eq!(rt; meeting.holder, Some(0), "the second one met it");
     assert_eq!(rt; meeting.count, 0, "nothing was published meanwhile");
     assert_eq!(rt; meeting.seen_by_first, 1);
     assert_eq!(rt; meeting.seen_by_second, 0);
     assert_eq!(rt; meeting.seen_now, 1);
-    assert!(rt; meeting.has_booted);
-    assert!(rt; meeting.is_logged);
+    assert_eq!(rt; meeting.booted_at, Some(1));
+    assert_eq!(rt; meeting.entries, Some(FETCH_AND_BOOT));
     Ok(())
 }

@@ -57,61 +57,79 @@ pub fn fill<R: Threads>(rt: &R, turn: &Turn<Tape>, a: Worker, b: Worker) -> (Wor
     )
 }
 
-/// Whether these are the places of the worker's entries, in order.
-pub fn are_places(places: &[u64], worker: u8, log: &[Entry]) -> bool {
-    let mut left = places.iter();
-    for (place, e) in log.iter().enumerate() {
-        if e.worker == worker && left.next().copied() != Some(place as u64) {
-            return false;
-        }
-    }
-    left.next().is_none()
+/// A place that a worker was given, and the place of its entry in the log, where these differ.
+#[derive(Clone, Copy, Debug, PartialEq, Eq)]
+pub struct Difference {
+    pub given: Option<u64>,
+    pub logged: Option<u64>,
 }
 
-// Fires once.
-fn hold(turn: &Turn<Tape>, mut seat: Seat<Tape>) -> (Seat<Tape>, bool)
+/// The first difference between the places that the worker was given and those of its entries, both in order.
+pub fn first_difference(places: &[u64], worker: u8, log: &[Entry]) -> Option<Difference> {
+    let mut left = places.iter();
+    for (place, e) in log.iter().enumerate() {
+        if e.worker != worker {
+            continue;
+        }
+        let given = left.next().copied();
+        let logged = Some(place as u64);
+        if given != logged {
+            return Some(Difference { given, logged });
+        }
+    }
+    match left.next().copied() {
+        None => None,
+        given => Some(Difference {
+            given,
+            logged: None,
+        }),
+    }
+}
+
+// Fires once. The place that it is given.
+fn hold(turn: &Turn<Tape>, mut seat: Seat<Tape>) -> (Seat<Tape>, Option<u64>)
     requires { IsOf turn.now seat }
     ensures { IsOf turn.now result.0 }
 {
-    let fired = matches!(turn.try_fire(&mut seat, Kind::Fetch), Ok(0));
-    (seat, fired)
+    let place = turn.try_fire(&mut seat, Kind::Fetch).ok();
+    (seat, place)
 }
 
-// Tries while another seat acts, and then opens the gate. Whether it met the seat 0, and what it
+// Tries while another seat acts, and then opens the gate. The number of the seat that it met, and what it
 // loaded.
-fn meet(turn: &Turn<Tape>, gate: &Gate, mut seat: Seat<Tape>) -> (Seat<Tape>, bool, u64)
+fn meet(turn: &Turn<Tape>, gate: &Gate, mut seat: Seat<Tape>) -> (Seat<Tape>, Option<u8>, u64)
     requires { IsOf turn.now seat }
     ensures { IsOf turn.now result.0 }
 {
     gate.await_act();
-    let met = matches!(
-        turn.try_fire(&mut seat, Kind::Boot),
-        Err(TurnFault::Busy { holder: 0 })
-    );
+    let holder = match turn.try_fire(&mut seat, Kind::Boot) {
+        Err(TurnFault::Busy { holder }) => Some(holder),
+        _ => None,
+    };
     let count = turn.seen_now(&mut seat);
     gate.open();
-    (seat, met, count)
+    (seat, holder, count)
 }
 
-/// The first seat fires, the second tries while it acts. Whether the first fired, whether the second
-/// met it, and what the second loaded meanwhile.
+/// The first seat fires, the second tries while it acts. The place that the first is given, the number of the
+/// seat that the second met, and what the second loaded meanwhile.
 pub fn meet_holder<R: Threads>(
     rt: &R,
     gate: &Gate,
     turn: &Turn<Tape>,
     a: Seat<Tape>,
     b: Seat<Tape>,
-) -> ((Seat<Tape>, bool), (Seat<Tape>, bool, u64))
+) -> ((Seat<Tape>, Option<u64>), (Seat<Tape>, Option<u8>, u64))
     requires { IsOf turn.now a × IsOf turn.now b }
     ensures { IsOf turn.now result.0.0 × IsOf turn.now result.1.0 }
 {
     thread::join(
         rt,
-        || -> (Seat<Tape>, bool)
+        || -> (Seat<Tape>, Option<u64>)
             requires { IsOf turn.now a }
             ensures { IsOf turn.entry.now result.0 }
         { hold(turn, a) },
-        || -> (Seat<Tape>, bool, u64)
+        || -> (Seat<Tape>, Option<u8>, u64)
             requires { IsOf turn.now b }
             ensures { IsOf turn.entry.now result.0 }
         { meet(turn, gate, b) },
