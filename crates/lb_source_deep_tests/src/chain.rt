@@ -12,7 +12,7 @@ fn only(alloc: Global, command: Cmd) -> Result<Block, NotChecked> {
 }
 
 /// Commands that hold a block.
-#[derive(Clone, Copy)]
+#[derive(Clone, Copy, Debug)]
 pub enum Nest {
     /// `stackalloc BYTES as x { .. }`.
     StackAlloc { bytes: u32 },

@@ -28,15 +28,32 @@ fn names(alloc: Global, between: usize) -> Result<Items<Name>, NotChecked> {
     Ok(names)
 }
 
-// Whether the run comes to the innermost block so many times, and then spends the fuel.
-fn reaches(alloc: Global, chain: &Chain, fuel: u64, times: usize) -> Result<bool, NotChecked> {
+// What a run does: how many accesses, how many of them aren't that of the innermost block, and how it ends.
+#[derive(Clone, Copy, Debug, PartialEq, Eq)]
+struct Done {
+    accesses: usize,
+    others: usize,
+    end: SourceEnd,
+}
+
+// It comes to the innermost block so many times, and then spends the fuel.
+const fn reaches(times: usize) -> Done {
+    Done {
+        accesses: times,
+        others: 0,
+        end: SourceEnd::Spent,
+    }
+}
+
+// What the chain does with so much fuel.
+fn done_with(alloc: Global, chain: &Chain, fuel: u64) -> Result<Done, NotChecked> {
     let run = chain.run(alloc, fuel)?;
     let trace = run.trace.as_slice();
-    Ok(
-        trace.len() == times
-            && trace.iter().all(|event| *event == REACHED)
-            && run.end == SourceEnd::Spent,
-    )
+    Ok(Done {
+        accesses: trace.len(),
+        others: trace.iter().filter(|event| **event != REACHED).count(),
+        end: run.end,
+    })
 }
 
 // Nine functions, of which eight fill their frames: 3,992 blocks in one another. The code is 32,764 words.
@@ -50,7 +67,8 @@ fn fills_near_frames(rt: HostRuntime) -> Result<(), Fail> {
         last: 208,
     };
     for (fuel, times) in [(8, 0), (9, 1), (11, 3)] {
-        assert!(rt; reaches(rt.alloc(), &chain, fuel, times)?, "fuel {fuel}");
+        let done = done_with(rt.alloc(), &chain, fuel)?;
+        assert_eq!(rt; done, reaches(times), "fuel {fuel}");
     }
     Ok(())
 }
@@ -66,7 +84,8 @@ fn nests_calls(rt: HostRuntime) -> Result<(), Fail> {
         last: 0,
     };
     for (fuel, times) in [(255, 0), (256, 1), (258, 3)] {
-        assert!(rt; reaches(rt.alloc(), &chain, fuel, times)?, "fuel {fuel}");
+        let done = done_with(rt.alloc(), &chain, fuel)?;
+        assert_eq!(rt; done, reaches(times), "fuel {fuel}");
     }
     Ok(())
 }
@@ -82,7 +101,8 @@ fn fills_the_stack(rt: HostRuntime) -> Result<(), Fail> {
         last: 1,
     };
     for (fuel, times) in [(1, 0), (2, 1), (4, 3)] {
-        assert!(rt; reaches(rt.alloc(), &chain, fuel, times)?, "fuel {fuel}");
+        let done = done_with(rt.alloc(), &chain, fuel)?;
+        assert_eq!(rt; done, reaches(times), "fuel {fuel}");
     }
     Ok(())
 }
@@ -105,7 +125,8 @@ fn nests_conditions(rt: HostRuntime) -> Result<(), Fail> {
             each: 0,
             last: 2_325,
         };
-        assert!(rt; reaches(rt.alloc(), &chain, fuel, times)?, "fuel {fuel}");
+        let done = done_with(rt.alloc(), &chain, fuel)?;
+        assert_eq!(rt; done, reaches(times), "{nest:?}, fuel {fuel}");
     }
     Ok(())
 }
