@@ -8,7 +8,7 @@ use std::test::Fail;
 // The frames of a script: the error mark, the number of bytes and the first and the last byte.
 fn frames(rt: &impl Abort, alloc: Global, text: &str) -> Result<String, Fail> {
     let bytes = text.as_bytes();
-    assert!(rt; bytes.len() < 1_000_000);
+    assert!(rt; bytes.len() < 1_000_000, "{} bytes", bytes.len());
     match read_frames(alloc, bytes, 1) {
         Ok(frames) => {
             let mut told = String::new(alloc);
@@ -49,6 +49,18 @@ fn script(alloc: Global, text: &str, bytes: u32, lines: u32) -> Result<String, A
     Ok(whole)
 }
 
+// The frames of the script of such a text.
+fn frames_of(
+    rt: &impl Abort,
+    alloc: Global,
+    text: &str,
+    bytes: u32,
+    lines: u32,
+) -> Result<String, Fail> {
+    let script = script(alloc, text, bytes, lines)?;
+    frames(rt, alloc, script.as_str())
+}
+
 // A packet of 43 bytes that is valid.
 const VALID: &str =
     "ffffffffffff02000000000108004500001d00000000401100000a0000010a000002100010010009000001";
@@ -69,7 +81,8 @@ fn frames_are_read(rt: HostRuntime) -> Result<(), Fail> {
         ("0g", "line 1 malformed"),
         ("g0", "line 1 malformed"),
     ] {
-        assert_eq!(rt; frames(&rt, alloc, text)?.as_str(), want);
+        let told = frames(&rt, alloc, text)?;
+        assert_eq!(rt; told.as_str(), want, "of {text:?}");
     }
     let mut script = String::from_str(alloc, VALID)?;
     script.push_str("\n!")?;
@@ -97,11 +110,15 @@ fn frames_keep_the_limits(rt: HostRuntime) -> Result<(), Fail> {
         ("%0\n", 0, 64, "line 65 malformed"),
         ("%0\n", 0, 63, "line 64 malformed"),
     ] {
-        let text = script(alloc, text, bytes, lines)?;
-        assert_eq!(rt; frames(&rt, alloc, text.as_str())?.as_str(), want);
+        let told = frames_of(&rt, alloc, text, bytes, lines)?;
+        assert_eq!(rt;
+            told.as_str(),
+            want,
+            "of {text:?} with {bytes} bytes, {lines} lines"
+        );
     }
-    let text = script(alloc, "%", 0, 64)?;
+    let told = frames_of(&rt, alloc, "%", 0, 64)?;
     let want = times(alloc, "1:01..01 ", 64)?;
-    assert_eq!(rt; frames(&rt, alloc, text.as_str())?.as_str(), want.as_str());
+    assert_eq!(rt; told.as_str(), want.as_str());
     Ok(())
 }

@@ -12,7 +12,7 @@ use std::test::Fail;
 // What is read from a log, printed again.
 fn log(rt: &impl Abort, alloc: Global, text: &str) -> Result<String, Fail> {
     let bytes = text.as_bytes();
-    assert!(rt; bytes.len() < 1_000_000);
+    assert!(rt; bytes.len() < 1_000_000, "{} bytes", bytes.len());
     match read_log(alloc, bytes, 1) {
         Ok(entries) => {
             let mut told = String::new(alloc);
@@ -43,7 +43,8 @@ fn logs_are_read(rt: HostRuntime) -> Result<(), Fail> {
         ("F0\nG0\nF9", "line 2 malformed"),
         ("F0\r\r\n", "line 1 malformed"),
     ] {
-        assert_eq!(rt; log(&rt, rt.alloc(), text)?.as_str(), want);
+        let told = log(&rt, rt.alloc(), text)?;
+        assert_eq!(rt; told.as_str(), want, "of {text:?}");
     }
     Ok(())
 }
@@ -72,9 +73,61 @@ fn have_digits(log: &[Entry]) -> bool
     log.iter().all(|entry| entry.worker < 8)
 }
 
+// What is told of a log that is printed: the lines and the bytes of its text, and how many entries are read from this,
+// up to the first that is another.
+#[derive(Clone, Copy, Debug, PartialEq, Eq)]
+struct Printed {
+    lines: usize,
+    bytes: usize,
+    entries: usize,
+    alike: usize,
+}
+
+// Prints a log of so many entries, and reads its text.
+fn print_and_read(rt: &impl Abort, alloc: Global, count: u8) -> Result<Printed, Fail> {
+    let entries = entries(alloc, count)?;
+    let text = text_of(rt, alloc, &entries)?;
+    let bytes = text.len();
+    assert!(rt; bytes < 1_000_000, "{bytes} bytes");
+    let read = read_log(alloc, &text, 1)?;
+    Ok(Printed {
+        lines: text.iter().filter(|byte| **byte == b'\n').count(),
+        bytes,
+        entries: read.len(),
+        alike: alike(&read, &entries),
+    })
+}
+
+// How many entries both logs have in common, from the first on.
+fn alike(one: &[Entry], other: &[Entry]) -> usize {
+    let mut count = 0usize;
+    for (entry, own) in one.iter().zip(other) {
+        if entry != own {
+            return count;
+        }
+        count = count.saturating_add(1);
+    }
+    count
+}
+
+// The text of the log.
+fn text_of(rt: &impl Abort, alloc: Global, entries: &[Entry]) -> Result<Vec<u8>, Fail> {
+    assert!(rt;
+        have_digits(entries),
+        "a worker of {} entries has no digit",
+        entries.len()
+    );
+    Ok(print_log(alloc, entries)?)
+}
+
+// The text of a log of three entries.
+fn print_three(rt: &impl Abort, alloc: Global) -> Result<Vec<u8>, Fail> {
+    let entries = entries(alloc, 3)?;
+    text_of(rt, alloc, &entries)
+}
+
 #[test]
 fn logs_are_printed(rt: HostRuntime) -> Result<(), Fail> {
-    let alloc = rt.alloc();
     for (count, lines) in [
         (0u8, 0usize),
         (1, 1),
@@ -84,20 +137,17 @@ fn logs_are_printed(rt: HostRuntime) -> Result<(), Fail> {
         (64, 2),
         (70, 3),
     ] {
-        let entries = entries(alloc, count)?;
-        assert!(rt; have_digits(&entries));
-        let text = print_log(alloc, &entries)?;
-        assert_eq!(rt; text.iter().filter(|byte| **byte == b'\n').count(), lines);
-        assert_eq!(rt; text.len(), 2 * usize::from(count) + lines);
-        assert!(rt; text.len() < 1_000_000);
-        let read = read_log(alloc, &text, 1)?;
-        assert_eq!(rt; read.as_slice(), entries.as_slice());
+        let printed = print_and_read(&rt, rt.alloc(), count)?;
+        let entries = usize::from(count);
+        let want = Printed {
+            lines,
+            bytes: 2 * entries + lines,
+            entries,
+            alike: entries,
+        };
+        assert_eq!(rt; printed, want, "of {count} entries");
     }
-    let three = entries(alloc, 3)?;
-    assert!(rt; have_digits(&three));
-    assert_eq!(rt;
-        print_log(alloc, &three)?.as_slice(),
-        b"F0A1F2\n".as_slice()
-    );
+    let three = print_three(&rt, rt.alloc())?;
+    assert_eq!(rt; three.as_slice(), b"F0A1F2\n".as_slice());
     Ok(())
 }

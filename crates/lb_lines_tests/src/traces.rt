@@ -9,7 +9,7 @@ use std::test::Fail;
 // What is read from a trace, printed again.
 fn trace(rt: &impl Abort, alloc: Global, text: &str) -> Result<String, Fail> {
     let bytes = text.as_bytes();
-    assert!(rt; bytes.len() < 1_000_000);
+    assert!(rt; bytes.len() < 1_000_000, "{} bytes", bytes.len());
     match read_trace(alloc, bytes, 7) {
         Ok(events) => {
             let printed = print_trace(alloc, &events)?;
@@ -22,7 +22,7 @@ fn trace(rt: &impl Abort, alloc: Global, text: &str) -> Result<String, Fail> {
 // The replies of a text, each with a space behind it.
 fn replies(rt: &impl Abort, alloc: Global, text: &str) -> Result<String, Fail> {
     let bytes = text.as_bytes();
-    assert!(rt; bytes.len() < 1_000_000);
+    assert!(rt; bytes.len() < 1_000_000, "{} bytes", bytes.len());
     match read_replies(alloc, bytes, 2) {
         Ok(words) => {
             let mut told = String::new(alloc);
@@ -60,7 +60,8 @@ fn traces_are_read(rt: HostRuntime) -> Result<(), Fail> {
         ("st\n", "line 7 malformed"),
         ("\r\r", "line 7 malformed"),
     ] {
-        assert_eq!(rt; trace(&rt, rt.alloc(), text)?.as_str(), want);
+        let told = trace(&rt, rt.alloc(), text)?;
+        assert_eq!(rt; told.as_str(), want, "of {text:?}");
     }
     Ok(())
 }
@@ -81,7 +82,8 @@ fn replies_are_read(rt: HostRuntime) -> Result<(), Fail> {
         ("+0000001\n", "line 2 malformed"),
         ("00000001\r\r\n", "line 2 malformed"),
     ] {
-        assert_eq!(rt; replies(&rt, rt.alloc(), text)?.as_str(), want);
+        let told = replies(&rt, rt.alloc(), text)?;
+        assert_eq!(rt; told.as_str(), want, "of {text:?}");
     }
     Ok(())
 }
