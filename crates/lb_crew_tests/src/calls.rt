@@ -73,17 +73,54 @@ pub fn until(alloc: Global, max_events: u32, seed: u32, events: u32) -> Result<M
     Ok(serial_until(boot(alloc, max_events)?, seed, events))
 }
 
-/// Whether the log is full, each of its entries is of a worker below the number, and the replay of the log made the
-/// same accesses.
-pub fn is_whole(alloc: Global, machine: &Machine, size: Size) -> Result<bool, Stop> {
+/// What is told of a crew's log: how many entries it has, and how many of these are of no worker of the crew; and what
+/// its replay did that the machine didn't: the place of the first access, and how many instructions each retired.
+#[derive(Clone, Copy, Debug, PartialEq, Eq)]
+pub struct Found {
+    pub entries: usize,
+    pub strangers: usize,
+    pub other_access: Option<usize>,
+    pub other_retired: Option<[u64; 2]>,
+}
+
+impl Size {
+    /// What is to be found: the log is full, each of its entries is of a worker of the crew, and its replay does the
+    /// same.
+    pub fn whole(self) -> Found {
+        Found {
+            entries: self.events as usize,
+            strangers: 0,
+            other_access: None,
+            other_retired: None,
+        }
+    }
+}
+
+/// What is found of the log of so many workers.
+pub fn find(alloc: Global, machine: &Machine, workers: u8) -> Result<Found, Stop> {
     let log = machine.log();
     let again = replay(alloc, &CODE, 0, Vec::new(alloc), log)?;
-    Ok(
-        log.len() == size.events as usize
-            && log.iter().all(|entry| entry.worker < size.workers)
-            && again.trace() == machine.trace()
-            && again.core().retired() == machine.core().retired(),
-    )
+    let retired = [machine.core().retired(), again.core().retired()];
+    Ok(Found {
+        entries: log.len(),
+        strangers: log.iter().filter(|entry| entry.worker >= workers).count(),
+        other_access: first_difference(again.trace(), machine.trace()),
+        other_retired: (retired[0] != retired[1]).then_some(retired),
+    })
+}
+
+/// The first place at which the two lists differ, or one of them ends.
+pub fn first_difference<T: PartialEq>(one: &[T], other: &[T]) -> Option<usize> {
+    for (place, (own, its)) in one.iter().zip(other).enumerate() {
+        if own != its {
+            return Some(place);
+        }
+    }
+    if one.len() == other.len() {
+        None
+    } else {
+        Some(one.len().min(other.len()))
+    }
 }
 
 /// Whether the log has an entry of the worker.
