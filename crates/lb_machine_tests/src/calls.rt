@@ -32,9 +32,15 @@ pub fn count(machine: &Machine) -> usize {
     machine.log().len()
 }
 
-/// The log.
-pub fn log_of(machine: &Machine) -> &[Entry] {
-    machine.log()
+/// The first four entries of the log. They hold no memory, so that an assertion on them costs little.
+pub fn first_entries(machine: &Machine) -> [Option<Entry>; 4] {
+    let log = machine.log();
+    [
+        log.first().copied(),
+        log.get(1).copied(),
+        log.get(2).copied(),
+        log.get(3).copied(),
+    ]
 }
 
 /// The accesses.
@@ -83,7 +89,7 @@ fn most(machine: &Machine) -> u32 {
 }
 
 /// What is counted of a machine.
-#[derive(Clone, Copy)]
+#[derive(Clone, Copy, Debug, PartialEq, Eq)]
 pub struct Counts {
     pub entries: usize,
     pub most: u32,

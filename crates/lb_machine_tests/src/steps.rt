@@ -14,15 +14,19 @@ use std::process::Abort;
 fn fire(rt: &impl Abort, machine: &mut Machine, kind: Kind) {
     let place = count(machine) as u64;
     assert!(rt; is_enabled(machine, kind), "{kind:?} at {place}");
-    assert_eq!(rt; attempt_at(machine, place, kind), Ok(place));
+    assert_eq!(rt; attempt_at(machine, place, kind), Ok(place), "{kind:?}");
 }
 
 // Fires a kind that isn't.
 fn refuse(rt: &impl Abort, machine: &mut Machine, kind: Kind) {
     let entries = count(machine);
     assert!(rt; !is_enabled(machine, kind), "{kind:?} at {entries}");
-    assert_eq!(rt; attempt(machine, kind), Err(NotFired::GuardFalse));
-    assert_eq!(rt; count(machine), entries);
+    assert_eq!(rt;
+        attempt(machine, kind),
+        Err(NotFired::GuardFalse),
+        "{kind:?} at {entries}"
+    );
+    assert_eq!(rt; count(machine), entries, "{kind:?}");
 }
 
 // Fires the kinds of one instruction.
@@ -82,8 +86,12 @@ pub fn tell(alloc: Global, machine: &Machine) -> Result<Vec<u8>, AllocError> {
 pub fn expect_halted(rt: &impl Abort, machine: &mut Machine, cause: Cause) {
     let entries = count(machine);
     for (_, kind) in KINDS {
-        assert!(rt; !is_enabled(machine, kind));
-        assert_eq!(rt; attempt(machine, kind), Err(NotFired::Halted { cause }));
+        assert!(rt; !is_enabled(machine, kind), "{kind:?}, halted by {cause:?}");
+        assert_eq!(rt;
+            attempt(machine, kind),
+            Err(NotFired::Halted { cause }),
+            "{kind:?}"
+        );
     }
-    assert_eq!(rt; count(machine), entries);
+    assert_eq!(rt; count(machine), entries, "halted by {cause:?}");
 }

@@ -1,7 +1,7 @@
 // Firing, refusing, copying and replaying. What a test asserts is told by functions of one machine each: every machine
 // that is at hand where a function may return makes the proof of a function longer.
-use crate::alike::{is_copied, is_of_job, makes, replays_at_each_length};
-use crate::calls::{Counts, attempt, counts_of, log_of, replay_one, replay_three};
+use crate::alike::{Copied, Parting, compare_copy, first_parting, is_of_job, lines_of};
+use crate::calls::{Counts, attempt, counts_of, first_entries, replay_one, replay_three};
 use crate::causes::{HALTING, HaltingProgram};
 use crate::jobs::{Job, boot};
 use crate::lines::{ACCESSES, FRAMES, STEPS, WORDS};
@@ -37,12 +37,13 @@ const fn entry(kind: Kind) -> Entry {
     Entry { worker: 0, kind }
 }
 
-// What is counted of a replay of three kinds, where these are its log.
-fn three_counted(alloc: Global) -> Result<Option<Counts>, Stop> {
+// The first entries and the counts of a machine.
+type Logged = ([Option<Entry>; 4], Counts);
+
+// Those of a replay of three kinds.
+fn three_replayed(alloc: Global) -> Result<Logged, Stop> {
     let machine = replay_three(alloc, LOOP, Kind::Fetch, Kind::Boot, Kind::Decode)?;
-    let log = [entry(Kind::Fetch), entry(Kind::Boot), entry(Kind::Decode)];
-    let is_logged = log_of(&machine) == log.as_slice();
-    Ok(is_logged.then_some(counts_of(&machine)))
+    Ok((first_entries(&machine), counts_of(&machine)))
 }
 
 // Why a log isn't replayed.
@@ -53,20 +54,31 @@ fn stop_of(replay: Result<Machine, Stop>) -> Option<Stop> {
 #[test]
 fn replays_a_log_up_to_what_cannot_be_fired(rt: HostRuntime) -> Result<(), Fail> {
     let alloc = rt.alloc();
-    let Some(counts) = three_counted(alloc)? else {
-        panic!(rt; "the log isn't what was replayed");
+    let (entries, counts) = three_replayed(alloc)?;
+    let log = [
+        Some(entry(Kind::Fetch)),
+        Some(entry(Kind::Boot)),
+        Some(entry(Kind::Decode)),
+        None,
+    ];
+    assert_eq!(rt; entries, log);
+    let want = Counts {
+        entries: 3,
+        most: 3,
+        accesses: 0,
+        done: 0,
+        retired: 0,
+        arrived: 0,
+        frames: 0,
+        lamp: false,
+        halted: None,
     };
-    assert_eq!(rt; counts.most, 3);
-    assert_eq!(rt; counts.accesses, 0);
-    assert_eq!(rt; counts.done, 0);
-    assert_eq!(rt; counts.retired, 0);
-    assert_eq!(rt; counts.halted, None);
-    assert_eq!(rt; counts.arrived, 0);
-    assert!(rt; !counts.lamp);
+    assert_eq!(rt; counts, want);
     for kind in [Kind::Decode, Kind::Arrive, Kind::Shift] {
         assert_eq!(rt;
             stop_of(replay_one(alloc, LOOP, kind)),
-            Some(Stop::BadEvent(0))
+            Some(Stop::BadEvent(0)),
+            "{kind:?}"
         );
     }
     let three = stop_of(replay_three(alloc, LOOP, Kind::Fetch, Kind::Fetch, Kind::Fetch));
@@ -74,14 +86,14 @@ fn replays_a_log_up_to_what_cannot_be_fired(rt: HostRuntime) -> Result<(), Fail>
     Ok(())
 }
 
-// What is told of a machine of one entry: what it answers, whether it has that entry, its accesses, whether it is
-// copied, and whether it is of two other jobs.
+// What is told of a machine of one entry: what it answers, its entries, its accesses, its copy, and whether it is of two
+// other jobs.
 #[derive(Clone, Copy)]
 struct Full {
     answers: [Result<u64, NotFired>; 3],
-    is_logged: bool,
+    entries: [Option<Entry>; 4],
     accesses: usize,
-    is_copied: Result<bool, Stop>,
+    copied: Result<Copied, Stop>,
     is_longer: Result<bool, Stop>,
     is_other: Result<bool, Stop>,
 }
@@ -96,9 +108,9 @@ fn fill(alloc: Global) -> Result<Full, Stop> {
     ];
     Ok(Full {
         answers,
-        is_logged: log_of(&machine) == [entry(Kind::Fetch)].as_slice(),
+        entries: first_entries(&machine),
         accesses: counts_of(&machine).accesses,
-        is_copied: is_copied(alloc, &machine),
+        copied: compare_copy(alloc, &machine),
         is_longer: is_of_job(alloc, &machine, LOOP, 2),
         is_other: is_of_job(alloc, &machine, OTHER, 1),
     })
@@ -107,15 +119,17 @@ fn fill(alloc: Global) -> Result<Full, Stop> {
 #[test]
 fn refuses_when_full(rt: HostRuntime) -> Result<(), Fail> {
     let full = fill(rt.alloc())?;
-    let [first, second, third] = full.answers;
-    assert_eq!(rt; first, Ok(0));
-    assert_eq!(rt; second, Err(NotFired::Full));
-    assert_eq!(rt; third, Err(NotFired::Full));
-    assert!(rt; full.is_logged);
+    let refused = Err(NotFired::Full);
+    assert_eq!(rt; full.answers, [Ok(0), refused, refused]);
+    assert_eq!(rt; full.entries, [Some(entry(Kind::Fetch)), None, None, None]);
     assert_eq!(rt; full.accesses, 0);
-    assert_eq!(rt; full.is_copied, Ok(true));
-    assert_eq!(rt; full.is_longer, Ok(false));
-    assert_eq!(rt; full.is_other, Ok(false));
+    assert_eq!(rt; full.copied, Ok(Copied::SAME));
+    assert_eq!(rt;
+        full.is_longer,
+        Ok(false),
+        "a job with more entries at most"
+    );
+    assert_eq!(rt; full.is_other, Ok(false), "a job of another program");
     Ok(())
 }
 
@@ -132,12 +146,12 @@ fn refuses_by_its_guard(rt: HostRuntime) -> Result<(), Fail> {
 }
 
 // What is told of a machine that fired all steps of the program that reads no frames.
-#[derive(Clone, Copy)]
+#[derive(Drop)]
 struct Deaf {
-    makes: Result<bool, Stop>,
+    lines: Result<Vec<u8>, Stop>,
     counts: Counts,
-    is_replayed: Result<bool, Stop>,
-    is_copied: Result<bool, Stop>,
+    parting: Result<Option<Parting>, Stop>,
+    copied: Result<Copied, Stop>,
 }
 
 // Fires the steps of the program that reads no frames.
@@ -145,22 +159,31 @@ fn fire_deaf<R: Abort>(rt: &R, alloc: Global) -> Result<Deaf, Stop> {
     let mut whole = boot(alloc, DEAF, 1000)?;
     fire_all(rt, &mut whole, STEPS);
     Ok(Deaf {
-        makes: makes(alloc, &whole, ACCESSES),
+        lines: lines_of(alloc, &whole),
         counts: counts_of(&whole),
-        is_replayed: replays_at_each_length(alloc, DEAF, &whole),
-        is_copied: is_copied(alloc, &whole),
+        parting: first_parting(alloc, DEAF, &whole),
+        copied: compare_copy(alloc, &whole),
     })
+}
+
+// Asserts that these are the lines.
+fn expect_lines<R: Abort>(rt: &R, lines: Vec<u8>, want: &str) {
+    let told = String::from_utf8(lines).expect(rt, "a trace is ASCII");
+    assert_eq!(rt; told.as_str(), want);
 }
 
 #[test]
 fn frames_arrive_while_nobody_listens(rt: HostRuntime) -> Result<(), Fail> {
-    let deaf = fire_deaf(&rt, rt.alloc())?;
-    assert_eq!(rt; deaf.makes, Ok(true));
-    assert_eq!(rt; deaf.counts.done, 45);
-    assert_eq!(rt; deaf.counts.arrived, 2);
-    assert_eq!(rt; deaf.counts.frames, 2);
-    assert_eq!(rt; deaf.is_replayed, Ok(true));
-    assert_eq!(rt; deaf.is_copied, Ok(true));
+    let Deaf {
+        lines,
+        counts,
+        parting,
+        copied,
+    } = fire_deaf(&rt, rt.alloc())?;
+    expect_lines(&rt, lines?, ACCESSES);
+    assert_eq!(rt; (counts.done, counts.arrived, counts.frames), (45, 2, 2));
+    assert_eq!(rt; parting, Ok(None), "the first length that isn't replayed");
+    assert_eq!(rt; copied, Ok(Copied::SAME));
     Ok(())
 }
 
@@ -179,16 +202,17 @@ fn halt<R: Abort>(rt: &R, alloc: Global, program: HaltingProgram) -> Result<usiz
 #[test]
 fn halts_by_each_cause(rt: HostRuntime) -> Result<(), Fail> {
     for program in HALTING {
-        assert_eq!(rt; halt(&rt, rt.alloc(), program)?, program.entries as usize);
+        let entries = halt(&rt, rt.alloc(), program)?;
+        assert_eq!(rt; entries, program.entries as usize, "by {:?}", program.cause);
     }
     Ok(())
 }
 
-// Whether the machine has these entries.
-fn has(machine: Option<Machine>, log: &[Entry]) -> bool {
+// The first entries of the machine.
+fn entries_of(machine: Option<Machine>) -> Option<[Option<Entry>; 4]> {
     match machine {
-        Some(machine) => log_of(&machine) == log,
-        None => false,
+        Some(machine) => Some(first_entries(&machine)),
+        None => None,
     }
 }
 
@@ -206,9 +230,13 @@ fn two_seats_fire_one_machine(rt: HostRuntime) -> Result<(), Fail> {
         worker: 1,
         kind: Kind::Boot,
     };
-    assert!(rt; has(value, &[entry(Kind::Fetch), by_second]));
+    let log = [Some(entry(Kind::Fetch)), Some(by_second), None, None];
+    assert_eq!(rt; entries_of(value), Some(log));
     assert_eq!(rt; missing, Some(0));
-    assert!(rt; is_refused);
+    assert!(rt;
+        is_refused,
+        "an access of a device is refused by its guard, over two entries"
+    );
     assert_eq!(rt; first.place, Some(0));
     assert_eq!(rt; second.place, Some(1));
     Ok(())
